@@ -1,0 +1,7 @@
+pub mod Examples
+pub mod Windows
+pub mod Scan
+pub mod Settle
+pub mod Row
+pub mod Exact
+pub mod Laws

@@ -1,0 +1,101 @@
+-- Step 1 finds the match and the order.
+use mathlib.Core.Path.{_≡_, refl, sym, ap, _∙_}
+use mathlib.Core.Logic.{_≢_}
+use mathlib.Core.Bool.{Bool, true, false, false≢true}
+use mathlib.Core.List.{List}
+use Prim.Native.Nat.{ℕ, zero, suc, _+_, _-_, _≤_, _<_}
+use native.Mathlib.Omega.{arith}
+use lib.Dec.{ltb}
+use lib.ListN.{length, getD}
+use borrow.Author.Tests.{eq-eqb, ne-eqb, ltb-true, ltb-false}
+use Rattle.suffix.proofs.Cases.{Same, same, other, same?}
+use Rattle.suffix.proofs.Sequence.{Agree, Less, Match, agree-sym}
+use Rattle.suffix.proofs.Order.{extended, extended-in, extended-out}
+use Rattle.reuse.specs.Steps.{Progress, SettledPair, scan, scanFrom}
+use Rattle.reuse.proofs.Examples
+
+agree-more : (f : ℕ → ℕ) {i j m : ℕ} → Agree f i j m → f (i + m) ≡ f (j + m) → Agree f i j (suc m)
+agree-more f {i} {j} {m} a e = record { on = λ k h. go k h (same? k m) }
+  where
+    go : (k : ℕ) → k < suc m → Same k m → f (i + k) ≡ f (j + k)
+    go k h (same q) = rw q e
+    go k h (other q) = a .on k (omega arith)
+
+-- a match m and an order b are those of the suffixes at l and r
+pub record Told (y : List ℕ) (l r : ℕ) (m : ℕ) (b : Bool) : Type 0 where
+  pub match : Match (extended y) l r m
+  pub left : b ≡ true → Less (extended y) l r
+  pub right : b ≡ false → Less (extended y) r l
+
+-- what a scan of (l, r) from m gives, where count comparisons were made before
+pub record Scanned (y : List ℕ) (l r m count : ℕ) (u : SettledPair) : Type 0 where
+  pub told : Told y l r (u .match) (u .leftSmaller)
+  pub reach : u .progress .reach ≡ r + u .match
+  pub shift : u .progress .shift ≡ r - l
+  pub more : m ≤ u .match
+  pub cost : u .progress .comparisons + m ≤ count + u .match + 1
+
+-- the clauses of the scan
+pub scan-equal : (y : List ℕ) (l r m k count : ℕ) → getD y (l + m) 0 ≡ getD y (r + m) 0 → scan y l r m (suc k) count ≡ scan y l r (suc m) k (suc count)
+unfolding scan
+scan-equal y l r m k count e = rw (eq-eqb _ _ e, scan)
+
+-- a scan that stops at m, with this count and order
+abbrev pub stopped : ℕ → ℕ → ℕ → ℕ → Bool → SettledPair
+stopped l r m count b = record { progress = record { reach = r + m; shift = r - l; comparisons = count }; match = m; leftSmaller = b }
+
+pub scan-unequal : (y : List ℕ) (l r m k count : ℕ) → getD y (l + m) 0 ≢ getD y (r + m) 0
+    → scan y l r m (suc k) count ≡ stopped l r m (suc count) (ltb (getD y (l + m) 0) (getD y (r + m) 0))
+unfolding scan
+scan-unequal y l r m k count e = rw (ne-eqb _ _ e, scan)
+
+scan-told : (y : List ℕ) (l r m k count : ℕ) → l < r → r + m + k ≡ length y → Agree (extended y) l r m → Scanned y l r m count (scan y l r m k count)
+unfolding scan
+scan-told y l r m zero count h n a =
+    let u : extended y (r + m) ≡ 0 = extended-out y (r + m) (omega arith) in
+    let v : extended y (l + m) ≡ suc (getD y (l + m) 0) = extended-in y (l + m) (omega arith) in
+    record {
+      told =
+          record {
+            match = record { same = a; differ = omega arith };
+            left = λ e. absurd (false≢true e);
+            right = λ e. record { at = m; same = agree-sym (extended y) a; less = omega arith };
+          };
+      reach = refl;
+      shift = refl;
+      more = omega arith;
+      cost = omega arith;
+    }
+scan-told y l r m (suc k) count h n a = go (same? (getD y (l + m) 0) (getD y (r + m) 0)) (λ p q. scan-told y l r (suc m) k (suc count) h p q)
+  where
+    el : extended y (l + m) ≡ suc (getD y (l + m) 0)
+    el = extended-in y (l + m) (omega arith)
+
+    er : extended y (r + m) ≡ suc (getD y (r + m) 0)
+    er = extended-in y (r + m) (omega arith)
+
+    wider : {u : SettledPair} → Scanned y l r (suc m) (suc count) u → Scanned y l r m count u
+    wider w = record { told = w .told; reach = w .reach; shift = w .shift; more = omega arith; cost = omega arith }
+
+    go : Same (getD y (l + m) 0) (getD y (r + m) 0)
+        → (r + suc m + k ≡ length y → Agree (extended y) l r (suc m) → Scanned y l r (suc m) (suc count) (scan y l r (suc m) k (suc count)))
+        → Scanned y l r m count (scan y l r m (suc k) count)
+    go (same e) ih = rw (scan-equal y l r m k count e) (wider (ih (omega arith) (agree-more (extended y) a (el ∙ ap suc e ∙ sym er))))
+    go (other e) ih =
+        rw (scan-unequal y l r m k count e)
+        (record {
+          told =
+              record {
+                match = record { same = a; differ = λ (q : extended y (l + m) ≡ extended y (r + m)). e (omega (arith, el, er)) };
+                left = λ q. record { at = m; same = a; less = omega (arith, el, er, ltb-true (getD y (l + m) 0) (getD y (r + m) 0) q) };
+                right = λ q. record { at = m; same = agree-sym (extended y) a; less = omega (arith, el, er, ltb-false (getD y (l + m) 0) (getD y (r + m) 0) q) };
+              };
+          reach = refl;
+          shift = refl;
+          more = omega arith;
+          cost = omega arith;
+        })
+
+pub scan-from : (y : List ℕ) (s : Progress) (l r m : ℕ) → l < r → r + m ≤ length y → Agree (extended y) l r m → Scanned y l r m (s .comparisons) (scanFrom y s l r m)
+unfolding scanFrom
+scan-from y s l r m h n a = scan-told y l r m (length y - (r + m)) (s .comparisons) h (omega arith) a

@@ -1,0 +1,13 @@
+pub mod Examples
+pub mod Cases
+pub mod Search
+pub mod Sequence
+pub mod Edges
+pub mod Order
+pub mod Nearest
+pub mod Rows
+pub mod Reach
+pub mod Lyndon
+pub mod Levels
+pub mod Written
+pub mod Laws
