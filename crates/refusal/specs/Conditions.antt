@@ -12,10 +12,9 @@ use Rattle.refusal.specs.Numbers.{lowest}
 abbrev pub tooLong : ℕ → Bool
 tooLong n = ltb 1000000 n
 
--- "2: a lent table not exactly n entries of 32 bits long", the lent tables having these lengths
-abbrev pub tableLengthOff : ℕ → List ℕ → Bool
-tableLengthOff n [] = false
-tableLengthOff n (lent ∷ others) = not (eqb lent n) || tableLengthOff n others
+-- "2: a lent table not exactly n entries of 32 bits long"
+abbrev pub tableLengthOff : ℕ → ℕ → Bool
+tableLengthOff n lent = not (eqb lent n)
 
 -- "3: the tree not exactly ceil(n/4) bytes."
 abbrev pub treeLengthOff : ℕ → ℕ → Bool
@@ -29,19 +28,23 @@ tooManyRows n rows = ltb n rows
 abbrev pub positionOutside : ℕ → ℕ → Bool
 positionOutside n i = leb n i
 
--- bit k of the bytes t: "Bit k is in byte floor(k/8) with weight 2 to the power (k mod 8)."
+-- From "The tree": "Bit k is in byte floor(k/8) with weight 2 to the power (k mod 8)." The bit of weight 2 ^ i in a byte, and bit k of
+-- the bytes t; bits that t does not have count as 0, and then 3 applies, which is lower than 6, 7 and 8.
+unfoldable pub byteBit : ℕ → ℕ → Bool
+byteBit b i = eqb (b / 2 ^ i % 2) 1
+
 unfoldable pub bitOf : List ℕ → ℕ → Bool
-bitOf t k = eqb (getD t (k / 8) 0 / 2 ^ (k % 8) % 2) 1
+bitOf t k = byteBit (getD t (k / 8) 0) (k % 8)
 
 -- "6: a spare bit is 1": one of those from 2n on
 unfoldable pub spareBitSet : ℕ → List ℕ → Bool
 spareBitSet n t = anyBelow (8 * length t - 2 * n) (λ k. bitOf t (2 * n + k))
 
 -- the openings and the closings among the first k bits
-unfoldable pub openings : List ℕ → ℕ → ℕ
+abbrev pub openings : List ℕ → ℕ → ℕ
 openings t k = countBelow k (bitOf t)
 
-unfoldable pub closings : List ℕ → ℕ → ℕ
+abbrev pub closings : List ℕ → ℕ → ℕ
 closings t k = countBelow k (λ j. not (bitOf t j))
 
 -- "7: some first bits of the 2n hold more closings than openings."
@@ -52,21 +55,39 @@ closedTooEarly n t = anyBelow (suc (2 * n)) (λ k. ltb (openings t k) (closings 
 unfoldable pub leftOpen : ℕ → List ℕ → Bool
 leftOpen n t = not (closedTooEarly n t) && ltb (closings t (2 * n)) (openings t (2 * n))
 
--- "Build: 1 to 4." R rows of n letters, over tables and a tree of these lengths
-unfoldable pub buildRefusal : ℕ → ℕ → List ℕ → ℕ → ℕ
-buildRefusal n rows tables bytes = lowest (tooLong n ∷ tableLengthOff n tables ∷ treeLengthOff n bytes ∷ tooManyRows n rows ∷ [])
-
--- "Reading: 1, 2, 3, 6, 7, 8."
-unfoldable pub readRefusal : ℕ → List ℕ → List ℕ → ℕ
-readRefusal n t tables =
+-- "Build: 1 to 4.", of so many rows of n letters; "four tables for the build", of these lengths, and a tree of so many bytes
+unfoldable pub buildRefusal : (n rows previous next previousMatch nextMatch bytes : ℕ) → ℕ
+buildRefusal n rows previous next previousMatch nextMatch bytes =
     lowest
-    (tooLong n ∷ tableLengthOff n tables ∷ treeLengthOff n (length t) ∷ false ∷ false ∷ spareBitSet n t ∷ closedTooEarly n t ∷ leftOpen n t ∷ [])
+    (tooLong n
+    ∷ (tableLengthOff n previous || tableLengthOff n next || tableLengthOff n previousMatch || tableLengthOff n nextMatch)
+    ∷ treeLengthOff n bytes
+    ∷ tooManyRows n rows
+    ∷ [])
 
--- "Tree questions: 1, 3, 5 to 8."
+-- "Reading: 1, 2, 3, 6, 7, 8.", of the bytes t as a tree of n positions; "previous and next for reading a tree", of these lengths
+unfoldable pub readRefusal : ℕ → List ℕ → (previous next : ℕ) → ℕ
+readRefusal n t previous next =
+    lowest
+    (tooLong n
+    ∷ (tableLengthOff n previous || tableLengthOff n next)
+    ∷ treeLengthOff n (length t)
+    ∷ false
+    ∷ false
+    ∷ spareBitSet n t
+    ∷ closedTooEarly n t
+    ∷ leftOpen n t
+    ∷ [])
+
+-- "Tree questions: 1, 3, 5 to 8.", for position i
 unfoldable pub questionRefusal : ℕ → List ℕ → ℕ → ℕ
 questionRefusal n t i =
     lowest
     (tooLong n ∷ false ∷ treeLengthOff n (length t) ∷ false ∷ positionOutside n i ∷ spareBitSet n t ∷ closedTooEarly n t ∷ leftOpen n t ∷ [])
+
+-- what reading and questions share: whether the bytes t are a tree of n positions
+unfoldable pub treeRefusal : ℕ → List ℕ → ℕ
+treeRefusal n t = lowest (tooLong n ∷ false ∷ treeLengthOff n (length t) ∷ false ∷ false ∷ spareBitSet n t ∷ closedTooEarly n t ∷ leftOpen n t ∷ [])
 
 -- "Longest word: 1, 5."
 unfoldable pub wordRefusal : ℕ → ℕ → ℕ

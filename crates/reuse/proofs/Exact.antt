@@ -9,7 +9,7 @@ use Rattle.suffix.specs.Search.{countBelow, tabulate}
 use Rattle.suffix.specs.Order.{lce}
 use Rattle.suffix.specs.Nearest.{previous, next}
 use Rattle.suffix.specs.Rows.{Tables, previousAfter, previousMatchAfter, nextAfter, nextMatchAfter, tablesAfter, reach}
-use Rattle.suffix.specs.Claims.{unclosed}
+use Rattle.suffix.specs.Tree.{unclosed}
 use Rattle.suffix.proofs.Cases.{Same, same, other, same?}
 use Rattle.suffix.proofs.Search.{tabulate-is}
 use Rattle.suffix.proofs.Sequence.{agree-none}
@@ -178,6 +178,8 @@ no-rows y =
       reached = refl;
       within = omega arith;
       bound = λ h. absurd (omega arith);
+      whole = λ h. absurd (omega arith);
+      at-zero = λ h. refl;
     }
   where
     n : ℕ
@@ -188,11 +190,15 @@ exact y zero g = no-rows y
 exact y (suc r) g =
     let D : Done y (suc r) (afterRows y (suc r)) = rows-done y (suc r) (omega arith) g in
     let c : afterRows y (suc r) .progress .reach ≡ reach y (suc r) = reach-is y (suc r) (afterRows y (suc r)) (omega arith) g D in
+    let fits : reach y (suc r) ≤ length y = omega (arith, c, last-fits (omega arith) g (D .last)) in
+    let least : 1 ≤ reach y (suc r) = reach-one y (suc r) (omega arith) in
     record {
       tables = tables-are y (suc r) (afterRows y (suc r) .tables) (D .sizes) (D .previous) (D .next) (D .previousMatch) (D .nextMatch);
       reached = c;
-      within = omega (arith, c, last-fits (omega arith) g (D .last));
-      bound = λ _. omega (arith, c, D .cost, reach-one y (suc r) (omega arith), unclosed-pos);
+      within = fits;
+      bound = λ _. omega (arith, c, D .cost, unclosed-pos);
+      whole = λ _ e. omega (arith, c, D .cost, unclosed-pos);
+      at-zero = λ e. absurd (omega arith);
     }
   where
     unclosed-pos : 1 ≤ unclosed y (suc r)

@@ -27,31 +27,31 @@ pub record Told (y : List ℕ) (l r : ℕ) (m : ℕ) (b : Bool) : Type 0 where
   pub left : b ≡ true → Less (extended y) l r
   pub right : b ≡ false → Less (extended y) r l
 
--- what a scan of (l, r) from m gives, where count comparisons were made before
-pub record Scanned (y : List ℕ) (l r m count : ℕ) (u : SettledPair) : Type 0 where
+-- what a scan of (l, r) from m gives, where so many comparisons were made before
+pub record Scanned (y : List ℕ) (l r m comparisons : ℕ) (u : SettledPair) : Type 0 where
   pub told : Told y l r (u .match) (u .leftSmaller)
   pub reach : u .progress .reach ≡ r + u .match
   pub shift : u .progress .shift ≡ r - l
   pub more : m ≤ u .match
-  pub cost : u .progress .comparisons + m ≤ count + u .match + 1
+  pub cost : u .progress .comparisons + m ≤ comparisons + u .match + 1
 
 -- the clauses of the scan
-pub scan-equal : (y : List ℕ) (l r m k count : ℕ) → getD y (l + m) 0 ≡ getD y (r + m) 0 → scan y l r m (suc k) count ≡ scan y l r (suc m) k (suc count)
+pub scan-equal : (y : List ℕ) (l r m k comparisons : ℕ) → getD y (l + m) 0 ≡ getD y (r + m) 0 → scan y l r m (suc k) comparisons ≡ scan y l r (suc m) k (suc comparisons)
 unfolding scan
-scan-equal y l r m k count e = rw (eq-eqb _ _ e, scan)
+scan-equal y l r m k comparisons e = rw (eq-eqb _ _ e, scan)
 
--- a scan that stops at m, with this count and order
+-- a scan that stops at m, with this comparisons and order
 abbrev pub stopped : ℕ → ℕ → ℕ → ℕ → Bool → SettledPair
-stopped l r m count b = record { progress = record { reach = r + m; shift = r - l; comparisons = count }; match = m; leftSmaller = b }
+stopped l r m comparisons b = record { progress = record { reach = r + m; shift = r - l; comparisons = comparisons }; match = m; leftSmaller = b }
 
-pub scan-unequal : (y : List ℕ) (l r m k count : ℕ) → getD y (l + m) 0 ≢ getD y (r + m) 0
-    → scan y l r m (suc k) count ≡ stopped l r m (suc count) (ltb (getD y (l + m) 0) (getD y (r + m) 0))
+pub scan-unequal : (y : List ℕ) (l r m k comparisons : ℕ) → getD y (l + m) 0 ≢ getD y (r + m) 0
+    → scan y l r m (suc k) comparisons ≡ stopped l r m (suc comparisons) (ltb (getD y (l + m) 0) (getD y (r + m) 0))
 unfolding scan
-scan-unequal y l r m k count e = rw (ne-eqb _ _ e, scan)
+scan-unequal y l r m k comparisons e = rw (ne-eqb _ _ e, scan)
 
-scan-told : (y : List ℕ) (l r m k count : ℕ) → l < r → r + m + k ≡ length y → Agree (extended y) l r m → Scanned y l r m count (scan y l r m k count)
+scan-told : (y : List ℕ) (l r m k comparisons : ℕ) → l < r → r + m + k ≡ length y → Agree (extended y) l r m → Scanned y l r m comparisons (scan y l r m k comparisons)
 unfolding scan
-scan-told y l r m zero count h n a =
+scan-told y l r m zero comparisons h n a =
     let u : extended y (r + m) ≡ 0 = extended-out y (r + m) (omega arith) in
     let v : extended y (l + m) ≡ suc (getD y (l + m) 0) = extended-in y (l + m) (omega arith) in
     record {
@@ -66,7 +66,7 @@ scan-told y l r m zero count h n a =
       more = omega arith;
       cost = omega arith;
     }
-scan-told y l r m (suc k) count h n a = go (same? (getD y (l + m) 0) (getD y (r + m) 0)) (λ p q. scan-told y l r (suc m) k (suc count) h p q)
+scan-told y l r m (suc k) comparisons h n a = go (same? (getD y (l + m) 0) (getD y (r + m) 0)) (λ p q. scan-told y l r (suc m) k (suc comparisons) h p q)
   where
     el : extended y (l + m) ≡ suc (getD y (l + m) 0)
     el = extended-in y (l + m) (omega arith)
@@ -74,15 +74,15 @@ scan-told y l r m (suc k) count h n a = go (same? (getD y (l + m) 0) (getD y (r 
     er : extended y (r + m) ≡ suc (getD y (r + m) 0)
     er = extended-in y (r + m) (omega arith)
 
-    wider : {u : SettledPair} → Scanned y l r (suc m) (suc count) u → Scanned y l r m count u
+    wider : {u : SettledPair} → Scanned y l r (suc m) (suc comparisons) u → Scanned y l r m comparisons u
     wider w = record { told = w .told; reach = w .reach; shift = w .shift; more = omega arith; cost = omega arith }
 
     go : Same (getD y (l + m) 0) (getD y (r + m) 0)
-        → (r + suc m + k ≡ length y → Agree (extended y) l r (suc m) → Scanned y l r (suc m) (suc count) (scan y l r (suc m) k (suc count)))
-        → Scanned y l r m count (scan y l r m (suc k) count)
-    go (same e) ih = rw (scan-equal y l r m k count e) (wider (ih (omega arith) (agree-more (extended y) a (el ∙ ap suc e ∙ sym er))))
+        → (r + suc m + k ≡ length y → Agree (extended y) l r (suc m) → Scanned y l r (suc m) (suc comparisons) (scan y l r (suc m) k (suc comparisons)))
+        → Scanned y l r m comparisons (scan y l r m (suc k) comparisons)
+    go (same e) ih = rw (scan-equal y l r m k comparisons e) (wider (ih (omega arith) (agree-more (extended y) a (el ∙ ap suc e ∙ sym er))))
     go (other e) ih =
-        rw (scan-unequal y l r m k count e)
+        rw (scan-unequal y l r m k comparisons e)
         (record {
           told =
               record {

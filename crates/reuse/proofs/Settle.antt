@@ -319,7 +319,15 @@ module _ {y : List ℕ} {r l m : ℕ} {s : Progress} {t : Tables} (small : r < l
       go (eq w) q = scan (omega arith)
       go (gt w) q = scan (omega arith)
 
-  -- step 2 looks at two places of the string, and their pair is recorded
+  -- step 2 has a shift to use
+  pub settle-shifted : r + m < s .reach → 0 < s .shift
+  settle-shifted w = go (A .last)
+    where
+      go : Last y (s .reach) (s .shift) r (suc l) → 0 < s .shift
+      go (unscanned h) = absurd (omega (arith, A .edge .before))
+      go (scanned P) = omega (arith, P .edge .before)
+
+  -- it looks at two places of the string, and their pair is recorded
   pub settle-recorded : r + m < s .reach
       → (s .shift ≤ l) × ((getD (t .next) (l - s .shift) 0 ≡ r - s .shift) ⊎ (getD (t .previous) (r - s .shift) 0 ≡ l - s .shift))
   settle-recorded w = go (A .last)

@@ -1,4 +1,5 @@
--- Document 01, "The reuse steps, which define the count": as they compute, given the letters y and the rows R and nothing else.
+-- Document 01, "The reuse steps, which define the count": "The steps are given the letters and R and nothing else." A step is one of
+-- document 01's four; a move of row r settles a pair (steps 1 and 2), or does steps 3 and 4 for a pair that is settled.
 use mathlib.Core.Bool.{Bool, true, false}
 use mathlib.Core.List.{List}
 use Prim.Native.Nat.{ℕ, zero, suc, _+_, _-_}
@@ -23,18 +24,19 @@ pub record SettledPair : Type 0 where
   pub match : ℕ
   pub leftSmaller : Bool
 
--- Step 1, with k letters left from r + m on: "compare y[l + m] with y[r + m], raising m by 1 while equal, and stop at the first
--- unequal letters or when r + m = n. Then c = r + m and d = r − l .. At n, the suffix at r is the smaller." A comparison tells
--- less, equal or greater and counts 1: the order at the first unequal letters is that comparison's.
+-- Step 1, with k letters left from r + m on, and so many comparisons made before: "compare y[l + m] with y[r + m], raising m by 1
+-- while equal, and stop at the first unequal letters or when r + m = n. Then c = r + m and d = r − l, also where c didn't grow. At n,
+-- the suffix at r is the smaller." "A comparison looks at two letters and tells less, equal or greater; it counts 1.": the order at
+-- the first unequal letters is that comparison's.
 unfoldable pub scan : List ℕ → ℕ → ℕ → ℕ → ℕ → ℕ → SettledPair
-scan y l r m zero count =
-    record { progress = record { reach = r + m; shift = r - l; comparisons = count }; match = m; leftSmaller = false }
-scan y l r m (suc k) count =
+scan y l r m zero comparisons =
+    record { progress = record { reach = r + m; shift = r - l; comparisons = comparisons }; match = m; leftSmaller = false }
+scan y l r m (suc k) comparisons =
     elim (eqb (getD y (l + m) 0) (getD y (r + m) 0)) [
-      | true ↦ scan y l r (suc m) k (suc count)
+      | true ↦ scan y l r (suc m) k (suc comparisons)
       | false ↦
           record {
-            progress = record { reach = r + m; shift = r - l; comparisons = suc count };
+            progress = record { reach = r + m; shift = r - l; comparisons = suc comparisons };
             match = m;
             leftSmaller = ltb (getD y (l + m) 0) (getD y (r + m) 0);
           }
@@ -53,7 +55,7 @@ reuse y s l r v b =
     ]
 
 -- Steps 1 and 2 settle (l, r) from m: "If r + m ≥ c, scan .. If r + m < c, take l − d and r − d. Their pair is recorded:
--- next[l − d] = r − d, or else previous[r − d] = l − d." (That it always is: Claims.antt.)
+-- next[l − d] = r − d, or else previous[r − d] = l − d." (That it always is: StepTwoIsRecorded in Claims.antt.)
 unfoldable pub settle : List ℕ → Progress → Tables → ℕ → ℕ → ℕ → SettledPair
 settle y s t l r m =
     elim (ltb (r + m) (s .reach)) [
@@ -65,7 +67,7 @@ settle y s t l r m =
       | false ↦ scanFrom y s l r m
     ]
 
--- "A place written without its match named has match m": previous[r] = l, or next[l] = r, with match m
+-- "A place written without its match named has match m; none has 0": previous[r] = l, or next[l] = r, with match m
 unfoldable pub recordPrevious : Tables → ℕ → ℕ → ℕ → Tables
 recordPrevious t r l m =
     record { previous = set (t .previous) r l; next = t .next; previousMatch = set (t .previousMatch) r m; nextMatch = t .nextMatch }
@@ -80,7 +82,10 @@ pub data Walk : Type 0 where
   settled : SettledPair → Tables → ℕ → Walk
   ended : BuildState → Walk
 
--- Step 3 where the suffix at k is not the smaller, and step 4. next[k] = r is recorded; p is previous[k].
+-- Step 3, from next[k] = r on: "Let k = l and p = previous[k]; if p is none, previous[r] is none and the row ends." Step 4: "If
+-- previous-match[k] < m, previous[r] = p with that match, and the row ends. If it is > m, next[p] = r with match m; go on from p as
+-- in step 3. If equal, settle (p, r) from m by steps 1 and 2, then step 3." Where it is > m, u is kept for (p, r): its match, which
+-- is m, and its leftSmaller, which is false wherever climb is used. So the next move writes next[p] = r with match m.
 unfoldable pub climb : List ℕ → ℕ → SettledPair → Tables → ℕ → Walk
 climb y r u t k =
     let p = getD (t .previous) k 0 in
@@ -94,7 +99,8 @@ climb y r u t k =
           ]
     ]
 
--- one step of row r: "settle (p, r) from m by steps 1 and 2, then step 3"
+-- One move of row r: the pair that is asked for is settled, by steps 1 and 2; or step 3, for a pair that is: "If the suffix at l is
+-- smaller, previous[r] = l and the row ends. Otherwise next[l] = r."
 unfoldable pub advance : List ℕ → ℕ → Walk → Walk
 advance y r (asked s t l m) = settled (settle y s t l r m) t l
 advance y r (settled u t l) =
@@ -104,10 +110,12 @@ advance y r (settled u t l) =
     ]
 advance y r (ended s) = ended s
 
+-- k moves
 unfoldable pub advances : List ℕ → ℕ → ℕ → Walk → Walk
 advances y r zero w = w
 advances y r (suc k) w = advances y r k (advance y r w)
 
+-- what is there so far
 unfoldable pub stateOf : Walk → BuildState
 stateOf (asked s t l m) = record { progress = s; tables = t }
 stateOf (settled u t l) = record { progress = u .progress; tables = t }
@@ -117,7 +125,7 @@ stateOf (ended s) = s
 unfoldable pub rowStart : BuildState → ℕ → Walk
 rowStart s r = asked (s .progress) (s .tables) (r - 1) 0
 
--- A row takes at most two steps for each l from r - 1 down to 0. (That it has ended by then: Claims.antt.)
+-- A row takes at most two moves for each l from r - 1 down to 0. (That it has ended by then: RowsEnd in Claims.antt.)
 unfoldable pub row : List ℕ → BuildState → ℕ → BuildState
 row y s r = stateOf (advances y r (r + r) (rowStart s r))
 
@@ -130,7 +138,7 @@ start y c =
       tables = record { previous = replicate n n; next = replicate n n; previousMatch = replicate n 0; nextMatch = replicate n 0 };
     }
 
--- "Row 0 sets reach c to 1 and shift d to 0." .. "previous[0] is none." For R = 0 reach is 0.
+-- "Row 0 sets reach c to 1 and shift d to 0.", and "previous[0] is none." "For R = 0 comparisons and reach are 0."
 unfoldable pub afterRows : List ℕ → ℕ → BuildState
 afterRows y zero = start y 0
 afterRows y (suc zero) = start y 1

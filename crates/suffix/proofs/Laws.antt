@@ -9,16 +9,19 @@ use native.Mathlib.Nat.{suc-inj}
 use lib.Dec.{ltb, leb·suc-suc}
 use lib.ListN.{length, getD, drop}
 use borrow.Author.Tests.{lt-ltb, le-ltb}
+use Rattle.suffix.specs.Search.{tabulate}
 use Rattle.suffix.specs.Order.{suffixLess, lce}
-use Rattle.suffix.specs.Nearest.{previous, next}
-use Rattle.suffix.specs.Rows.{isPair}
-use Rattle.suffix.specs.Claims.{Ordered, SuffixesAreOrdered, ByLetters, LettersDecide, IsPrevious, IsNext, PreviousIsGreatest, NextIsLeast, LargerBetween, PairsAreEdges, PairsDoNotCross, PreviousIsOnTheChain, NextIsOnTheChain, MatchOfThree, MatchesOfThree, LongestIsNext, RowsWriteTheTree, TreeHasTwoBitsARow}
+use Rattle.suffix.specs.Nearest.{previous, next, previousMatch, nextMatch}
+use Rattle.suffix.specs.Rows.{previousAfter, nextAfter, previousMatchAfter, nextMatchAfter, tablesAfter, isPair}
+use Rattle.suffix.specs.Claims.{Ordered, SuffixesAreOrdered, ByLetters, LettersDecide, IsPrevious, IsNext, PreviousIsGreatest, NextIsLeast, LargerBetween, PairsAreEdges, PairsDoNotCross, PreviousIsOnTheChain, NextIsOnTheChain, MatchOfThree, MatchesOfThree, AllRowsGiveAllEntries, RowsSettleTheirOwn, LongestIsNext, RowsWriteTheTree, TreeHasTwoBitsARow}
 use Rattle.suffix.specs.Claims as claims
 use Rattle.suffix.proofs.Cases.{Tri, lt, eq, gt, tri, Same, same, other, same?, le-unless}
+use Rattle.suffix.proofs.Search.{tabulate-same}
 use Rattle.suffix.proofs.Sequence.{Less, Match, agree-sym, agree-match, asym}
 use Rattle.suffix.proofs.Edges.{Edge, PreviousAt, NoPrevious, NextAt, Chain, here, up, no-cross, prev-chain, edge-chain, chain-le, chain-over, next-edge, edge-prev, edge-next, match-below, match-above, match-equal, match-edge, below-prev}
 use Rattle.suffix.proofs.Order.{extended, extended-in, extended-out, lex-irreflexive, lex-transitive, lce-match, lce-is, total, less-true, less-false, less-from-true, less-at-match, agree-fits}
-use Rattle.suffix.proofs.Nearest.{PreviousCase, some, none, previous-case, previous-is, previous-low, previous-all, previous-at, no-previous, next-at, next-le, next-is, pair-edge, edge-pair}
+use Rattle.suffix.proofs.Nearest.{PreviousCase, some, none, previous-case, previous-any, previous-is, previous-low, previous-all, previous-at, next-at, next-le, next-is, pair-edge, pair-edge-end, edge-pair}
+use Rattle.suffix.proofs.Rows.{nextMatch-none, previousAfter-in, previousMatchAfter-in, nextAfter-in, nextAfter-out, nextMatchAfter-in, nextMatchAfter-out, previousAfter-stays, previousMatchAfter-stays, nextAfter-stays, nextMatchAfter-stays}
 use Rattle.suffix.proofs.Reach.{pair-in, pair-from}
 use Rattle.suffix.proofs.Lyndon.{longest-next}
 use Rattle.suffix.proofs.Written.{rows-write, tree-length}
@@ -125,7 +128,7 @@ pairsAreEdges y l r h g = (λ p. larger (pair-edge y l r h g (pair-from y l r p)
 
 pub pairsDoNotCross : PairsDoNotCross
 pairsDoNotCross y a b c d u v w h p q =
-    no-cross (extended y) (pair-edge y a c (omega arith) (omega arith) (pair-from y a c p)) (pair-edge y b d (omega arith) h (pair-from y b d q)) u v w
+    no-cross (extended y) (pair-edge y a c (omega arith) (omega arith) (pair-from y a c p)) (pair-edge-end y b d (omega arith) h (pair-from y b d q)) u v w
 
 -- a chain over the sequence is one of previous entries, and back
 module _ (y : List ℕ) where
@@ -140,14 +143,14 @@ module _ (y : List ℕ) where
   chain-from {s} h (claims.up g c) = up (previous-at y s h (previous y s) (omega arith) refl) (chain-from (omega arith) c)
 
 pub previousIsOnTheChain : PreviousIsOnTheChain
-previousIsOnTheChain y s h = go (previous-case y (suc s) h)
+previousIsOnTheChain y s h = go (previous-any y (suc s) h)
   where
     go : PreviousCase y (suc s) (previous y (suc s)) → (previous y (suc s) ≡ length y) ⊎ claims.Chain y s (previous y (suc s))
     go (none e N) = inl e
     go (some P) = inr (chain-is y (omega arith) (prev-chain (extended y) P (previous-all y (suc s) (omega arith)) s refl))
 
 pub nextIsOnTheChain : NextIsOnTheChain
-nextIsOnTheChain y s l h g = (λ e. (on e, above e (previous-case y (suc s) h)), λ c a. next-is y l (omega arith) (suc s) (is (chain-from y (omega arith) c) a))
+nextIsOnTheChain y s l h g = (λ e. (on e, above e (previous-any y (suc s) h)), λ c a. next-is y l (omega arith) (suc s) (is (chain-from y (omega arith) c) a))
   where
     N : next y l ≡ suc s → NextAt (extended y) l (suc s)
     N e = rw e at (next-at y l (omega arith))
@@ -164,16 +167,17 @@ nextIsOnTheChain y s l h g = (λ e. (on e, above e (previous-case y (suc s) h)),
         bad w (other q) = below-prev (extended y) P (omega arith) (N e)
 
     is : Chain (extended y) s l → (previous y (suc s) ≡ length y) ⊎ (previous y (suc s) < l) → NextAt (extended y) l (suc s)
-    is c a = record { after = omega arith; smaller = smaller a; nearest = λ k u w. chain-over (extended y) c k u (omega arith) }
+    is c a = record { after = omega arith; smaller = smaller a (previous-any y (suc s) h); nearest = λ k u w. chain-over (extended y) c k u (omega arith) }
       where
-        smaller : (previous y (suc s) ≡ length y) ⊎ (previous y (suc s) < l) → Less (extended y) (suc s) l
-        smaller (inl e) = no-previous y (suc s) h e .least l (omega arith)
-        smaller (inr w) = previous-at y (suc s) h (previous y (suc s)) (omega arith) refl .nearest l w (omega arith)
+        smaller : (previous y (suc s) ≡ length y) ⊎ (previous y (suc s) < l) → PreviousCase y (suc s) (previous y (suc s)) → Less (extended y) (suc s) l
+        smaller a (none q N) = N .least l (omega arith)
+        smaller (inl e) (some P) = absurd (omega (arith, P .before))
+        smaller (inr w) (some P) = P .nearest l w (omega arith)
 
 pub matchesOfThree : MatchesOfThree
 matchesOfThree y k h some-previous some-next =
     record {
-      equal = λ e. agree-match (extended y) (match-equal (extended y) P N A B e) C;
+      equal = λ e. (agree-match (extended y) (match-equal (extended y) P N A B e) C, pair-in y l r (edge-pair y l r (E .before) r-in E));
       less = λ w. (let x = match-below (extended y) P N A B w in (lce-is y l r ne a b (lce y l k) (x .0), previous-is y r r-in l (edge-prev (extended y) E (x .1))));
       more = λ w. (let x = match-above (extended y) P N A B w in (lce-is y l r ne a b (lce y k r) (x .0), next-is y l (omega (arith, P .before)) r (edge-next (extended y) E (x .1))));
     }
@@ -217,6 +221,35 @@ matchesOfThree y k h some-previous some-next =
 
     E : Edge (extended y) l r
     E = match-edge (extended y) P N A B
+
+-- ---- the tables after R rows
+
+pub allRowsGiveAllEntries : AllRowsGiveAllEntries
+unfolding tablesAfter
+allRowsGiveAllEntries y =
+    let n : ℕ = length y in
+    let a : tabulate n (previousAfter y n) ≡ tabulate n (previous y) = tabulate-same (previousAfter y n) (previous y) n (λ i h. previousAfter-in y n i h) in
+    let b : tabulate n (nextAfter y n) ≡ tabulate n (next y) = tabulate-same (nextAfter y n) (next y) n (λ i h. settled i h (same? (next y i) n)) in
+    let c : tabulate n (previousMatchAfter y n) ≡ tabulate n (previousMatch y) = tabulate-same (previousMatchAfter y n) (previousMatch y) n (λ i h. previousMatchAfter-in y n i h) in
+    let d : tabulate n (nextMatchAfter y n) ≡ tabulate n (nextMatch y) = tabulate-same (nextMatchAfter y n) (nextMatch y) n (λ i h. settledMatch i h (same? (next y i) n)) in
+    rw (a, b, c, d)
+  where
+    settled : (i : ℕ) → i < length y → Same (next y i) (length y) → nextAfter y (length y) i ≡ next y i
+    settled i h (same e) = nextAfter-out y (length y) i (omega arith) ∙ sym e
+    settled i h (other e) = nextAfter-in y (length y) i h (omega (arith, next-le y i))
+
+    settledMatch : (i : ℕ) → i < length y → Same (next y i) (length y) → nextMatchAfter y (length y) i ≡ nextMatch y i
+    settledMatch i h (same e) = nextMatchAfter-out y (length y) i (omega arith) ∙ sym (nextMatch-none y i e)
+    settledMatch i h (other e) = nextMatchAfter-in y (length y) i h (omega (arith, next-le y i))
+
+pub rowsSettleTheirOwn : RowsSettleTheirOwn
+rowsSettleTheirOwn y r i h =
+    record {
+      own-previous = λ e. (previousAfter-in y (suc r) i (omega arith), previousMatchAfter-in y (suc r) i (omega arith));
+      own-next = λ e. (nextAfter-in y (suc r) i h (omega arith), nextMatchAfter-in y (suc r) i h (omega arith));
+      other-previous = λ ne. (previousAfter-stays y r i ne, previousMatchAfter-stays y r i ne);
+      other-next = λ ne. (nextAfter-stays y r i h ne, nextMatchAfter-stays y r i h ne);
+    }
 
 -- ---- Lyndon words and the tree
 

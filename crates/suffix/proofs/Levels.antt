@@ -10,7 +10,7 @@ use lib.ListN.{length}
 use borrow.Author.Tests.{eq-eqb, ne-eqb, le-leb, lt-leb}
 use Rattle.suffix.specs.Search.{countBelow}
 use Rattle.suffix.specs.Nearest.{previous, next}
-use Rattle.suffix.specs.Claims.{closedBy, unclosed}
+use Rattle.suffix.specs.Tree.{closedBy, unclosed}
 use Rattle.suffix.proofs.Cases.{Tri, lt, eq, gt, tri, Same, same, other, same?, le-unless}
 use Rattle.suffix.proofs.Search.{count-yes, count-no, count-stop, count-same}
 use Rattle.suffix.proofs.Sequence.{Less, asym, less-trans}

@@ -9,5 +9,6 @@ pub mod Rows
 pub mod Reach
 pub mod Lyndon
 pub mod Levels
+pub mod Hanging
 pub mod Written
 pub mod Laws

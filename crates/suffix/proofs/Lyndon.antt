@@ -43,7 +43,7 @@ lyndon-not w j h g p =
     (rw z (less-false w 0 j (omega arith) (omega arith) (omega arith) p)))
 
 module _ (y : List ℕ) (i k : ℕ) (fits : i + k ≤ length y) where
-  part-length : length (part y i k) ≡ k
+  pub part-length : length (part y i k) ≡ k
   unfolding part
   part-length = omega (arith, length-take k (drop i y), length-drop i y)
 

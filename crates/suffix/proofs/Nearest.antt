@@ -9,6 +9,7 @@ use lib.ListN.{length}
 use Rattle.suffix.specs.Search.{greatestBelow, leastFrom}
 use Rattle.suffix.specs.Order.{suffixLess}
 use Rattle.suffix.specs.Nearest.{previous, next}
+use Rattle.suffix.proofs.Cases.{Tri, lt, eq, gt, tri}
 use Rattle.suffix.proofs.Search.{Greatest, Least, found, absent, greatest, least}
 use Rattle.suffix.proofs.Sequence.{Less, asym}
 use Rattle.suffix.proofs.Edges.{Edge, PreviousAt, NoPrevious, NextAt, prev-unique, next-unique, prev-edge, next-edge, edge-prev, edge-next}
@@ -101,6 +102,25 @@ next-le y i = go (least (λ j. suffixLess y j i) (length y) (suc i) (length y - 
     go (found a b c d) = omega arith
     go (absent a d) = omega arith
 
+-- nothing is smaller than the end
+pub previous-end : (y : List ℕ) → previous y (length y) ≡ length y
+unfolding previous
+previous-end y = go (greatest (λ j. suffixLess y j (length y)) (length y) (length y))
+  where
+    go : {v : ℕ} → Greatest (length y) (λ j. suffixLess y j (length y)) (length y) v → v ≡ length y
+    go {v} (found a b c) =
+        absurd (asym (extended y) (less-from-true y v (length y) (omega arith) (omega arith) (omega arith) b) (end-least y v a))
+    go (absent a c) = a
+
+-- the end too has its case
+pub previous-any : (y : List ℕ) (i : ℕ) → i ≤ length y → PreviousCase y i (previous y i)
+previous-any y i h = go (tri i (length y))
+  where
+    go : Tri i (length y) → PreviousCase y i (previous y i)
+    go (lt w) = previous-case y i w
+    go (eq w) = rw w (none (previous-end y) (record { least = λ k g. end-least y k g }))
+    go (gt w) = absurd (omega arith)
+
 -- each position below r has a previous smaller suffix or none
 pub previous-all : (y : List ℕ) (r : ℕ) → r ≤ length y → (i : ℕ) → i < r → ((p : ℕ) × PreviousAt (extended y) i p) ⊎ NoPrevious (extended y) i
 previous-all y r h i g = go (previous-case y i (omega arith))
@@ -121,3 +141,13 @@ module _ (y : List ℕ) (l r : ℕ) (h : l < r) (g : r < length y) where
       go : Less (extended y) l r ⊎ Less (extended y) r l → (next y l ≡ r) ⊎ (previous y r ≡ l)
       go (inl s) = inr (previous-is y r g l (edge-prev (extended y) e s))
       go (inr s) = inl (next-is y l (omega arith) r (edge-next (extended y) e s))
+
+-- or one with the end: next[l] = n
+pub pair-edge-end : (y : List ℕ) (l r : ℕ) → l < r → r ≤ length y → (next y l ≡ r) ⊎ (previous y r ≡ l) → Edge (extended y) l r
+pair-edge-end y l r h g (inl e) = next-edge (extended y) (rw e at (next-at y l (omega arith)))
+pair-edge-end y l r h g (inr e) = go (tri r (length y))
+  where
+    go : Tri r (length y) → Edge (extended y) l r
+    go (lt w) = pair-edge y l r h w (inr e)
+    go (eq w) = absurd (omega (arith, previous-end y, ap (previous y) w))
+    go (gt w) = absurd (omega arith)

@@ -23,6 +23,10 @@ module _ (y : List ℕ) where
   unfolding previousMatch
   previousMatch-some i p h e = rw (ne-eqb (previous y i) (length y) (omega arith), previousMatch) (ap (λ q. lce y q i) e)
 
+  pub nextMatch-none : (i : ℕ) → next y i ≡ length y → nextMatch y i ≡ 0
+  unfolding nextMatch
+  nextMatch-none i h = rw (eq-eqb (next y i) (length y) h, nextMatch)
+
   pub nextMatch-some : (i q : ℕ) → q ≢ length y → next y i ≡ q → nextMatch y i ≡ lce y i q
   unfolding nextMatch
   nextMatch-some i q h e = rw (ne-eqb (next y i) (length y) (omega arith), nextMatch) (ap (lce y i) e)

@@ -1,13 +1,13 @@
 -- What the searches, counts and tables of specs/Search.antt find.
 use mathlib.Core.Path.{_≡_, refl, sym, ap, _∙_}
 use mathlib.Core.Logic.{_≢_}
-use mathlib.Core.Bool.{Bool, true, false}
+use mathlib.Core.Bool.{Bool, true, false, true≢false}
 use mathlib.Core.List.{List, [], _∷_}
 use Prim.Native.Nat.{ℕ, zero, suc, _+_, _-_, _≤_, _<_, max}
 use native.Mathlib.Omega.{arith}
 use lib.ListN.{length, getD}
 use lib.Seq.{ext-getD}
-use Rattle.suffix.specs.Search.{greatestBelow, leastFrom, allBelow, countBelow, sumBelow, maximumBelow, tabulate, tabulateFrom}
+use Rattle.suffix.specs.Search.{greatestBelow, leastFrom, allBelow, anyBelow, countBelow, sumBelow, maximumBelow, tabulate, tabulateFrom}
 use Rattle.suffix.proofs.Cases.{Same, same, other, same?, Test, holds, fails, test}
 
 -- ---- the greatest and the least number that passes a test
@@ -73,6 +73,35 @@ module _ (g : ℕ → Bool) where
       go (other z) (holds w) ih = rw (w, allBelow) (ih (omega arith))
       go (other z) (fails w) ih = rw (w, allBelow)
 
+  pub all-at : (n : ℕ) → allBelow n g ≡ true → (j : ℕ) → j < n → g j ≡ true
+  all-at n e j h = go (test (g j))
+    where
+      go : Test (g j) → g j ≡ true
+      go (holds w) = w
+      go (fails w) = absurd (true≢false (sym e ∙ all-false n j h w))
+
+  pub any-true : (n j : ℕ) → j < n → g j ≡ true → anyBelow n g ≡ true
+  unfolding anyBelow
+  any-true zero j h e = absurd (omega arith)
+  any-true (suc n) j h e = go (same? j n) (test (g n)) (λ w. any-true n j w e)
+    where
+      go : Same j n → Test (g n) → (j < n → anyBelow n g ≡ true) → anyBelow (suc n) g ≡ true
+      go (same z) t ih = rw (rw z at e, anyBelow)
+      go (other z) (holds w) ih = rw (w, anyBelow)
+      go (other z) (fails w) ih = rw (w, anyBelow) (ih (omega arith))
+
+  pub any-false : (n : ℕ) → ((j : ℕ) → j < n → g j ≡ false) → anyBelow n g ≡ false
+  unfolding anyBelow
+  any-false zero q = refl
+  any-false (suc n) q = rw (q n (omega arith), anyBelow) (any-false n (λ j h. q j (omega arith)))
+
+  pub any-not : (n : ℕ) → anyBelow n g ≡ false → (j : ℕ) → j < n → g j ≡ false
+  any-not n e j h = go (test (g j))
+    where
+      go : Test (g j) → g j ≡ false
+      go (holds w) = absurd (true≢false (sym (any-true n j h w) ∙ e))
+      go (fails w) = w
+
   pub count-yes : (n : ℕ) → g n ≡ true → countBelow (suc n) g ≡ suc (countBelow n g)
   unfolding countBelow
   count-yes n e = rw (e, countBelow)
@@ -80,6 +109,15 @@ module _ (g : ℕ → Bool) where
   pub count-no : (n : ℕ) → g n ≡ false → countBelow (suc n) g ≡ countBelow n g
   unfolding countBelow
   count-no n e = rw (e, countBelow)
+
+  pub count-most : (n : ℕ) → countBelow n g ≤ n
+  unfolding countBelow
+  count-most zero = omega arith
+  count-most (suc n) = go (test (g n)) (count-most n)
+    where
+      go : Test (g n) → countBelow n g ≤ n → countBelow (suc n) g ≤ suc n
+      go (holds e) ih = omega (arith, count-yes n e)
+      go (fails e) ih = omega (arith, count-no n e)
 
   -- nothing is counted from m on
   pub count-stop : (m n : ℕ) → m ≤ n → ((k : ℕ) → m ≤ k → k < n → g k ≡ false) → countBelow n g ≡ countBelow m g
@@ -89,6 +127,15 @@ module _ (g : ℕ → Bool) where
       go : Same m (suc n) → (m ≤ n → countBelow n g ≡ countBelow m g) → countBelow (suc n) g ≡ countBelow m g
       go (same z) ih = rw z
       go (other z) ih = count-no n (q n (omega arith) (omega arith)) ∙ ih (omega arith)
+
+pub any-same : (g h : ℕ → Bool) (n : ℕ) → ((k : ℕ) → k < n → g k ≡ h k) → anyBelow n g ≡ anyBelow n h
+unfolding anyBelow
+any-same g h zero q = refl
+any-same g h (suc n) q = go (test (g n)) (any-same g h n (λ k w. q k (omega arith)))
+  where
+    go : Test (g n) → anyBelow n g ≡ anyBelow n h → anyBelow (suc n) g ≡ anyBelow (suc n) h
+    go (holds e) ih = rw (e, anyBelow, sym (q n (omega arith)) ∙ e, anyBelow)
+    go (fails e) ih = rw (e, anyBelow, sym (q n (omega arith)) ∙ e, anyBelow) ih
 
 pub count-same : (g h : ℕ → Bool) (n : ℕ) → ((k : ℕ) → k < n → g k ≡ h k) → countBelow n g ≡ countBelow n h
 unfolding countBelow

@@ -1,17 +1,18 @@
 -- What is claimed of the definitions. Each claim is a type; the law of the same name in proofs/Laws.antt proves it.
 use mathlib.Core.Path.{_≡_}
 use mathlib.Core.Logic.{_≢_, _⊎_}
-use mathlib.Core.Bool.{Bool, true, false}
-use mathlib.Core.List.{List, _∷_, _++_}
-use Prim.Native.Nat.{ℕ, zero, suc, _+_, _-_, _*_, _≤_, _<_}
-use lib.Dec.{eqb, ltb, leb}
-use lib.ListN.{length, getD, replicate}
-use Rattle.suffix.specs.Search.{countBelow}
+use mathlib.Core.Bool.{true, false}
+use mathlib.Core.List.{List}
+use Prim.Native.Nat.{ℕ, suc, _+_, _-_, _*_, _≤_, _<_}
+use lib.Dec.{ltb}
+use lib.ListN.{length, getD}
+use Rattle.suffix.specs.Search.{tabulate}
 use Rattle.suffix.specs.Order.{suffixLess, lce}
-use Rattle.suffix.specs.Nearest.{previous, next}
-use Rattle.suffix.specs.Rows.{isPair}
+use Rattle.suffix.specs.Nearest.{previous, next, previousMatch, nextMatch}
+use Rattle.suffix.specs.Rows.{previousAfter, nextAfter, previousMatchAfter, nextMatchAfter, tablesAfter, isPair}
 use Rattle.suffix.specs.Lyndon.{longestLyndon}
 use Rattle.suffix.specs.Tree.{treeAfter}
+unfoldable pub use Rattle.suffix.specs.Tree.{closedBy, unclosed, rowsWrite}
 
 -- ---- the order of suffixes, the empty one at n among them
 
@@ -70,36 +71,61 @@ abbrev pub PairsAreEdges : Type 0
 PairsAreEdges =
     (y : List ℕ) (l r : ℕ) → l < r → r < length y → (isPair y l r ≡ true → LargerBetween y l r) × (LargerBetween y l r → isPair y l r ≡ true)
 
--- document 004, lemma 5
+-- Document 004, lemma 5. The end, at n, is document 004's sentinel $; its sentinel # before the string has no position here, nor in
+-- the two claims below, where previous[r] = n stands for it.
 abbrev pub PairsDoNotCross : Type 0
 PairsDoNotCross =
-    (y : List ℕ) (a b c d : ℕ) → a < b → b < c → c < d → d < length y → isPair y a c ≡ true → isPair y b d ≡ true → ⊥
+    (y : List ℕ) (a b c d : ℕ) → a < b → b < c → c < d → d ≤ length y → isPair y a c ≡ true → isPair y b d ≡ true → ⊥
 
 -- l is s, or previous[s], or previous of that, and so on
 pub data Chain (y : List ℕ) : ℕ → ℕ → Type 0 where
   here : {s : ℕ} → Chain y s s
   up : {s l : ℕ} → previous y s < s → Chain y (previous y s) l → Chain y s l
 
--- document 004, lemma 6 (i)
+-- document 004, lemma 6 (i), for r = s + 1 up to n
 abbrev pub PreviousIsOnTheChain : Type 0
-PreviousIsOnTheChain = (y : List ℕ) (s : ℕ) → suc s < length y → (previous y (suc s) ≡ length y) ⊎ Chain y s (previous y (suc s))
+PreviousIsOnTheChain = (y : List ℕ) (s : ℕ) → suc s ≤ length y → (previous y (suc s) ≡ length y) ⊎ Chain y s (previous y (suc s))
 
--- document 004, lemma 6 (ii): next[l] = r exactly for the l of the chain from r - 1 that are above previous[r]
+-- document 004, lemma 6 (ii), for r = s + 1 up to n: next[l] = r exactly for the l of the chain from r - 1 that are above previous[r]
 abbrev pub NextIsOnTheChain : Type 0
 NextIsOnTheChain =
-    (y : List ℕ) (s l : ℕ) → suc s < length y → l ≤ s
+    (y : List ℕ) (s l : ℕ) → suc s ≤ length y → l ≤ s
     → (next y l ≡ suc s → Chain y s l × ((previous y (suc s) ≡ length y) ⊎ (previous y (suc s) < l)))
     × (Chain y s l → (previous y (suc s) ≡ length y) ⊎ (previous y (suc s) < l) → next y l ≡ suc s)
 
--- document 004, lemma 7, (i) to (iii): l = previous[k] and r = next[k]
+-- document 004, lemma 7, (i) to (iii): l = previous[k] and r = next[k], neither of them none
 pub record MatchOfThree (y : List ℕ) (l k r : ℕ) : Type 0 where
-  pub equal : lce y l k ≡ lce y k r → lce y k r ≤ lce y l r
+  pub equal : lce y l k ≡ lce y k r → (lce y k r ≤ lce y l r) × (isPair y l r ≡ true)
   pub less : lce y l k < lce y k r → (lce y l r ≡ lce y l k) × (previous y r ≡ l)
   pub more : lce y k r < lce y l k → (lce y l r ≡ lce y k r) × (next y l ≡ r)
 
 abbrev pub MatchesOfThree : Type 0
 MatchesOfThree =
     (y : List ℕ) (k : ℕ) → k < length y → previous y k ≢ length y → next y k ≢ length y → MatchOfThree y (previous y k) k (next y k)
+
+-- ---- the tables after R rows
+
+-- "Where R = n this is the full definition."
+abbrev pub AllRowsGiveAllEntries : Type 0
+AllRowsGiveAllEntries =
+    (y : List ℕ)
+    → tablesAfter y (length y)
+    ≡ record {
+      previous = tabulate (length y) (previous y);
+      next = tabulate (length y) (next y);
+      previousMatch = tabulate (length y) (previousMatch y);
+      nextMatch = tabulate (length y) (nextMatch y);
+    }
+
+-- "Row i settles previous[i] and each next entry equal to i.": with row r, entry i becomes exact, or it stays as it was
+pub record RowSettles (y : List ℕ) (r i : ℕ) : Type 0 where
+  pub own-previous : i ≡ r → (previousAfter y (suc r) i ≡ previous y i) × (previousMatchAfter y (suc r) i ≡ previousMatch y i)
+  pub own-next : next y i ≡ r → (nextAfter y (suc r) i ≡ next y i) × (nextMatchAfter y (suc r) i ≡ nextMatch y i)
+  pub other-previous : i ≢ r → (previousAfter y r i ≡ previousAfter y (suc r) i) × (previousMatchAfter y r i ≡ previousMatchAfter y (suc r) i)
+  pub other-next : next y i ≢ r → (nextAfter y r i ≡ nextAfter y (suc r) i) × (nextMatchAfter y r i ≡ nextMatchAfter y (suc r) i)
+
+abbrev pub RowsSettleTheirOwn : Type 0
+RowsSettleTheirOwn = (y : List ℕ) (r i : ℕ) → i < length y → RowSettles y r i
 
 -- ---- Lyndon words
 
@@ -108,20 +134,6 @@ abbrev pub LongestIsNext : Type 0
 LongestIsNext = (y : List ℕ) (i : ℕ) → i < length y → longestLyndon y i ≡ next y i - i
 
 -- ---- the tree
-
--- the number of l < r with next[l] = r
-unfoldable pub closedBy : List ℕ → ℕ → ℕ
-closedBy y r = countBelow r (λ l. eqb (next y l) r)
-
--- the number of l < R with next[l] not below R
-unfoldable pub unclosed : List ℕ → ℕ → ℕ
-unclosed y R = countBelow R (λ l. leb R (next y l))
-
--- what t rows from r on write, from left to right: the opening of r right after the closings of the l with next[l] = r, and at the
--- end the closings of what is open
-unfoldable pub rowsWrite : List ℕ → ℕ → ℕ → List Bool
-rowsWrite y r zero = replicate (unclosed y r) false
-rowsWrite y r (suc t) = replicate (closedBy y r) false ++ true ∷ rowsWrite y (suc r) t
 
 -- the rows write the tree from left to right, whatever R
 abbrev pub RowsWriteTheTree : Type 0

@@ -1,3 +1,5 @@
+-- In the specs of every crate, words in quotation marks are those of document 01, or of the demand that is named; .. marks words left
+-- out. Numbered lemmas are named, not quoted.
 pub mod Ranks
 pub mod Search
 pub mod Order

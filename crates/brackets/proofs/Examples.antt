@@ -1,0 +1,69 @@
+-- The document's examples, computed by the definitions.
+use mathlib.Core.Path.{_≡_, refl}
+use mathlib.Core.Bool.{Bool, true, false}
+use mathlib.Core.List.{List, [], _∷_}
+use Prim.Native.Nat.{ℕ}
+use lib.IntN.{ℤ, pos, negsuc}
+use Rattle.suffix.specs.Search.{leastFrom, anyBelow, countBelow}
+use Rattle.refusal.specs.Numbers.{lowestFrom, lowest}
+use Rattle.refusal.specs.Conditions.{byteBit, bitOf, spareBitSet, closedTooEarly, leftOpen, treeRefusal, questionRefusal}
+use Rattle.brackets.specs.Excess.{byteExcess, byteMinExcess}
+use Rattle.brackets.specs.Shape.{forestsFrom, shapeOf, previousTable, nextTable}
+use Rattle.brackets.specs.Answers.{Figures, value, refused, placeOf, previousAnswer, nextAnswer, placeAnswer}
+
+-- "For hexadecimal CD they are 2 and 0."; the byte 02 closes first, and has one opening
+byte-excesses : byteExcess 0xCD ∷ byteMinExcess 0xCD ∷ byteExcess 0x02 ∷ byteMinExcess 0x02 ∷ [] ≡ pos 2 ∷ pos 0 ∷ negsuc 5 ∷ negsuc 5 ∷ []
+unfolding byteExcess byteMinExcess byteBit
+byte-excesses = refl
+
+-- M9, M10, M11, the tree of banana, and that of its first four rows, which is a tree of 4 positions and not of 6
+verdicts :
+    treeRefusal 2 (0x02 ∷ [])
+    ∷ treeRefusal 2 (0x0F ∷ [])
+    ∷ treeRefusal 2 (0x15 ∷ [])
+    ∷ treeRefusal 6 (0xCD ∷ 0x04 ∷ [])
+    ∷ treeRefusal 6 (0x4D ∷ 0x00 ∷ [])
+    ∷ treeRefusal 4 (0x4D ∷ [])
+    ∷ []
+    ≡ 7 ∷ 8 ∷ 6 ∷ 0 ∷ 7 ∷ 0 ∷ []
+unfolding anyBelow countBelow lowestFrom lowest byteBit bitOf spareBitSet closedTooEarly leftOpen treeRefusal
+verdicts = refl
+
+-- the tables of these trees
+banana : previousTable 6 (0xCD ∷ 0x04 ∷ []) ∷ nextTable 6 (0xCD ∷ 0x04 ∷ []) ∷ [] ≡ (6 ∷ 6 ∷ 1 ∷ 6 ∷ 3 ∷ 6 ∷ []) ∷ (1 ∷ 3 ∷ 3 ∷ 5 ∷ 5 ∷ 6 ∷ []) ∷ []
+unfolding byteBit bitOf forestsFrom shapeOf previousTable nextTable
+banana = refl
+
+halted-banana : previousTable 4 (0x4D ∷ []) ∷ nextTable 4 (0x4D ∷ []) ∷ [] ≡ (4 ∷ 4 ∷ 1 ∷ 4 ∷ []) ∷ (1 ∷ 3 ∷ 3 ∷ 4 ∷ []) ∷ []
+unfolding byteBit bitOf forestsFrom shapeOf previousTable nextTable
+halted-banana = refl
+
+-- questions put to the tree of banana
+questions :
+    previousAnswer 6 (0xCD ∷ 0x04 ∷ []) 4
+    ∷ nextAnswer 6 (0xCD ∷ 0x04 ∷ []) 4
+    ∷ placeAnswer 6 (0xCD ∷ 0x04 ∷ []) 4
+    ∷ placeAnswer 6 (0xCD ∷ 0x04 ∷ []) 6
+    ∷ []
+    ≡ value 3 ∷ value 5 ∷ value 7 ∷ refused 5 ∷ []
+unfolding
+    anyBelow
+    countBelow
+    leastFrom
+    lowestFrom
+    lowest
+    byteBit
+    bitOf
+    spareBitSet
+    closedTooEarly
+    leftOpen
+    questionRefusal
+    forestsFrom
+    shapeOf
+    previousTable
+    nextTable
+    placeOf
+    previousAnswer
+    nextAnswer
+    placeAnswer
+questions = refl

@@ -1,0 +1,17 @@
+pub mod Examples
+pub mod Heights
+pub mod Shapes
+pub mod Parsing
+pub mod Reading
+pub mod Entries
+pub mod Conditions
+pub mod Searching
+pub mod Signed
+pub mod Going
+pub mod Legs
+pub mod Spare
+pub mod Answering
+pub mod Questions
+pub mod Bits
+pub mod Rows
+pub mod Laws

@@ -1,0 +1,16 @@
+-- `brackets::fell` meets its contract.
+use mathlib.Core.Path.{_≡_, ap, _∙_}
+use native.Mathlib.Omega.{arith}
+use lib.IntN.{pos}
+use lib.Signed.{ltZ}
+use Rattle.brackets.proofs.Signed.{back, negative}
+use Rattle.brackets.proofs.fell.Statement.{statement}
+use Rattle.brackets.proofs.fell.Tie as tie
+
+returns : tie.Need-returns
+returns c =
+    let z = c .before .before .args .s .sum in
+    ap (λ x. ltZ x (pos 0)) (back z (omega arith)) ∙ negative z
+
+pub fell-spec : {M : Type 1} → statement M
+fell-spec = tie.close (tie.spec returns)

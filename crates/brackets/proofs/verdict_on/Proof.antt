@@ -1,0 +1,25 @@
+-- `brackets::verdict_on` meets its contract.
+use mathlib.Core.Path.{_≡_, sym, _∙_}
+use native.Mathlib.Omega.{arith}
+use borrow.Author.Needs.{needs}
+use Rattle.brackets.proofs.Conditions.{tree-1, tree-3, tree-flaw}
+use Rattle.brackets.proofs.verdict_on.Statement.{statement}
+use Rattle.brackets.proofs.verdict_on.Tie as tie
+
+returns : tie.Need-returns
+returns c = let s = c .before .before in sym (tree-1 (s .args .n) (s .args .tree .now) (c .if1 .taken))
+
+add-if2 : tie.Need-add-if2
+add-if2 c = search needs
+
+returns-2 : tie.Need-returns-2
+returns-2 c = let s = c .before .before .before in sym (tree-3 (s .args .n) (s .args .tree .now) (omega arith) (c .if2 .taken))
+
+flaw-requires : tie.Need-flaw-requires
+flaw-requires c κs = search needs
+
+returns-3 : tie.Need-returns-3
+returns-3 c = let s = c .before .before .before .before in c .flaw .ensures ∙ sym (tree-flaw (s .args .n) (s .args .tree .now) (omega arith) (omega arith))
+
+pub verdict-on-spec : {M : Type 1} → statement M
+verdict-on-spec = tie.close (tie.spec returns add-if2 returns-2 flaw-requires returns-3)

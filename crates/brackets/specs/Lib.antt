@@ -1,0 +1,5 @@
+pub mod Shape
+pub mod Excess
+pub mod Answers
+pub mod Claims
+pub mod Searching

@@ -1,0 +1,123 @@
+-- What the private functions that search in the brackets promise each other.
+use mathlib.Core.Path.{_≡_}
+use mathlib.Core.Logic.{_≢_}
+use mathlib.Core.Bool.{Bool, true, false, not}
+use mathlib.Core.List.{List}
+use Prim.Native.Nat.{ℕ, zero, suc, _+_, _-_, _*_, _/_, _%_, _≤_, _<_, min, max}
+use lib.Dec.{ltb}
+use lib.IntN.{ℤ, pos, negsuc}
+use lib.Signed.{mag}
+use Rattle.suffix.specs.Search.{countBelow, maximumBelow}
+use Rattle.refusal.specs.Conditions.{byteBit, bitOf}
+
+-- the openings among the first k bits
+abbrev pub opened : (ℕ → Bool) → ℕ → ℕ
+opened g k = countBelow k g
+
+-- after j bits at most s brackets less are open than after a bits; or just s + 1 less
+abbrev pub Above : (ℕ → Bool) → ℕ → ℕ → ℕ → Type 0
+Above g a s j = j + 2 * opened g a ≤ s + a + 2 * opened g j
+
+abbrev pub OneBelow : (ℕ → Bool) → ℕ → ℕ → ℕ → Type 0
+OneBelow g a s j = j + 2 * opened g a ≡ s + a + 2 * opened g j + 1
+
+-- A search starts at bit a with the sum s and goes to bit b, forward or back: an opening adds 1 going forward and takes 1 away going
+-- back. On the way the sum does not fall below 0, and at b it is v.
+pub record Passed (g : ℕ → Bool) (a s b v : ℕ) : Type 0 where
+  pub clear : (j : ℕ) → min a b ≤ j → j ≤ max a b → Above g a s j
+  pub sum : b + v + 2 * opened g a ≡ s + a + 2 * opened g b
+
+-- it falls below 0 at b, and not before
+pub record Fell (g : ℕ → Bool) (a s b : ℕ) : Type 0 where
+  pub clear : (j : ℕ) → min a b ≤ j → j ≤ max a b → j ≢ b → Above g a s j
+  pub falls : OneBelow g a s b
+
+pub data Reached (g : ℕ → Bool) (a s b : ℕ) : ℤ → Type 0 where
+  passed : {v : ℕ} → Passed g a s b v → Reached g a s b (pos v)
+  fell : Fell g a s b → Reached g a s b (negsuc 0)
+
+abbrev pub isMinus : ℤ → Bool
+isMinus (pos v) = false
+isMinus (negsuc v) = true
+
+-- from bit a to bit e, or to where the sum falls
+pub record Searched (g : ℕ → Bool) (a s e at : ℕ) (sum : ℤ) : Type 0 where
+  pub reached : Reached g a s at sum
+  pub between : (min a e ≤ at) × (at ≤ max a e)
+  pub ends : isMinus sum ≡ false → at ≡ e
+
+-- the bit that a search passes next, and where it stands then
+abbrev pub bitFrom : Bool → ℕ → ℕ
+bitFrom false k = k
+bitFrom true k = k - 1
+
+abbrev pub stepAt : Bool → ℕ → ℕ
+stepAt false k = k + 1
+stepAt true k = k - 1
+
+-- the sum after it: one more, or one less
+abbrev pub turnedSum : Bool → ℕ → ℤ
+turnedSum true v = pos (v + 1)
+turnedSum false zero = negsuc 0
+turnedSum false (suc v) = pos v
+
+abbrev pub stepSum : Bool → Bool → ℕ → ℤ
+stepSum false opening v = turnedSum opening v
+stepSum true opening v = turnedSum (not opening) v
+
+-- the byte that a search at a byte's edge passes next
+abbrev pub byteFrom : Bool → ℕ → ℕ
+byteFrom false k = k / 8
+byteFrom true k = k / 8 - 1
+
+-- the nearest byte's edge that is not below bit k, or not above it
+abbrev pub byteEdge : Bool → ℕ → ℕ
+byteEdge true k = 8 * ((k + 7) / 8)
+byteEdge false k = 8 * (k / 8)
+
+-- the end of a search comes before the edge; back it goes to bit 0, which is an edge
+abbrev pub isPast : Bool → ℕ → ℕ → Bool
+isPast false edge e = ltb e edge
+isPast true edge e = false
+
+-- the openings among the first m bits of a byte, and how far below its start the sum falls in the byte
+abbrev pub ones : ℕ → ℕ → ℕ
+ones b m = countBelow m (byteBit b)
+
+unfoldable pub dip : ℕ → ℕ
+dip b = maximumBelow 9 (λ m. m - 2 * ones b m)
+
+-- the sum falls in the byte b, from v: going forward, or back
+abbrev pub stopsAt : Bool → ℕ → ℕ → Bool
+stopsAt false b v = ltb v (dip b)
+stopsAt true b v = ltb (v + 8) (2 * ones b 8 + dip b)
+
+-- where a search stands behind a byte, and the sum there, where it does not fall in the byte
+abbrev pub passedAt : Bool → ℕ → ℕ
+passedAt false k = k + 8
+passedAt true k = k - 8
+
+abbrev pub passedSum : Bool → ℕ → ℕ → ℕ
+passedSum false b v = v + 2 * ones b 8 - 8
+passedSum true b v = v + 8 - 2 * ones b 8
+
+-- a search that has not fallen, and stands within the largest tree
+pub record Live (at : ℕ) (sum : ℤ) : Type 0 where
+  pub low : sum ≡ pos (mag sum)
+  pub small : mag sum ≤ 10000000
+  pub within : at ≤ 2000000
+
+-- whole bytes were passed, from bit a towards bit e
+pub record ByteSearched (g : ℕ → Bool) (a s e at : ℕ) (sum : ℤ) : Type 0 where
+  pub low : sum ≡ pos (mag sum)
+  pub passed : Passed g a s at (mag sum)
+  pub between : (min a e ≤ at) × (at ≤ max a e)
+  pub edge : at % 8 ≡ 0
+
+-- a search may start: it goes on to a bit e that is not before it, or back to one that is not behind it, in a tree of so many bytes
+pub record Ready (back : Bool) (at : ℕ) (sum : ℤ) (e bytes : ℕ) : Type 0 where
+  pub low : sum ≡ pos (mag sum)
+  pub small : mag sum ≤ 4000000
+  pub fits : bytes ≤ 250000
+  pub on : back ≡ false → (at ≤ e) × (e ≤ 8 * bytes)
+  pub down : back ≡ true → (e ≤ at) × (at ≤ 8 * bytes)

@@ -1,0 +1,77 @@
+-- The longest-word question, refused and not; and the law that proves specs/Claims.antt.
+use mathlib.Core.Path.{_≡_, refl, ap, _∙_}
+use mathlib.Core.Logic.{_≢_}
+use mathlib.Core.Bool.{Bool, true, false}
+use mathlib.Core.List.{List, [], _∷_}
+use Prim.Native.Nat.{ℕ, _+_, _-_, _≤_, _<_}
+use native.Mathlib.Omega.{arith}
+use lib.ListN.{length, take, drop, length-drop}
+use borrow.Author.Tests.{lt-ltb, le-ltb, le-leb, lt-leb, leb-false, eq-eqb, ne-eqb}
+use borrow.Rule.Slice.PartAt.{part-to-end}
+use Rattle.suffix.specs.Lyndon.{part, longestLyndon}
+use Rattle.suffix.proofs.Nearest.{next-le}
+use Rattle.suffix.proofs.Lyndon.{part-length, longest-next}
+use Rattle.refusal.specs.Numbers.{lowest, lowestFrom}
+use Rattle.refusal.specs.Conditions.{tooLong, positionOutside, wordRefusal}
+use Rattle.word.specs.Word.{wordPart, wordStart}
+use Rattle.word.specs.Claims.{WordIsLongest}
+
+-- ---- the number
+
+pub too-long : (n i : ℕ) → 1000000 < n → wordRefusal n i ≡ 1
+unfolding wordRefusal lowest lowestFrom
+too-long n i h = simp (lt-ltb _ _ h)
+
+pub outside : (n i : ℕ) → n ≤ 1000000 → n ≤ i → wordRefusal n i ≡ 5
+unfolding wordRefusal lowest lowestFrom
+outside n i h g = simp (le-ltb _ _ h, le-leb _ _ g)
+
+pub not-refused : (n i : ℕ) → n ≤ 1000000 → i < n → wordRefusal n i ≡ 0
+unfolding wordRefusal lowest lowestFrom
+not-refused n i h g = simp (le-ltb _ _ h, lt-leb _ _ g)
+
+-- a position that is not refused is one of the string
+pub inside : (n i : ℕ) → wordRefusal n i ≡ 0 → i < n
+unfolding wordRefusal lowest lowestFrom
+inside n i e = leb-false n i (go (tooLong n) (positionOutside n i) e)
+  where
+    go : (long out : Bool) → lowest (long ∷ false ∷ false ∷ false ∷ out ∷ []) ≡ 0 → out ≡ false
+    go true out e = absurd (omega arith)
+    go false true e = absurd (omega arith)
+    go false false e = refl
+
+-- ---- the part
+
+module _ (y : List ℕ) (i : ℕ) where
+  pub part-taken : wordRefusal (length y) i ≡ 0 → wordPart y i ≡ part y i (longestLyndon y i)
+  unfolding wordPart
+  part-taken e = rw (eq-eqb _ 0 e, wordPart)
+
+  pub part-refused : wordRefusal (length y) i ≢ 0 → wordPart y i ≡ []
+  unfolding wordPart
+  part-refused e = rw (ne-eqb _ 0 e, wordPart)
+
+  pub start-taken : wordRefusal (length y) i ≡ 0 → wordStart y i ≡ i
+  unfolding wordStart
+  start-taken e = rw (eq-eqb _ 0 e, wordStart)
+
+  pub start-refused : wordRefusal (length y) i ≢ 0 → wordStart y i ≡ 0
+  unfolding wordStart
+  start-refused e = rw (ne-eqb _ 0 e, wordStart)
+
+  -- what the slice from i on holds: the longest Lyndon word at its front is that from i
+  pub cut-length : length (take (length y - i) (drop i y)) ≡ length y - i
+  cut-length = rw part-to-end (length-drop i y)
+
+  pub longest-cut : longestLyndon (take (length y - i) (drop i y)) 0 ≡ longestLyndon y i
+  unfolding longestLyndon part
+  longest-cut = let z : length (drop i y) - 0 ≡ length y - i = omega (arith, length-drop i y) in rw (part-to-end, z)
+
+  pub longest-fits : i < length y → i + longestLyndon y i ≤ length y
+  longest-fits h = omega (arith, longest-next y i h, next-le y i)
+
+pub wordIsLongest : WordIsLongest
+wordIsLongest y i e =
+    let h : i < length y = inside (length y) i e in
+    let z : length (wordPart y i) ≡ longestLyndon y i = ap length (part-taken y i e) ∙ part-length y i (longestLyndon y i) (longest-fits y i h) in
+    (z ∙ longest-next y i h, z)

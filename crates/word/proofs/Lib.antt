@@ -1,0 +1,3 @@
+pub mod Duval
+pub mod Laws
+pub mod Examples

@@ -1,0 +1,16 @@
+-- What is claimed of the longest-word question. The claim is a type; the law of the same name in proofs/Laws.antt proves it.
+use mathlib.Core.Path.{_≡_}
+use mathlib.Core.List.{List}
+use Prim.Native.Nat.{ℕ, _-_}
+use lib.ListN.{length}
+use Rattle.suffix.specs.Ranks.{ranks}
+use Rattle.suffix.specs.Nearest.{next}
+use Rattle.suffix.specs.Lyndon.{longestLyndon}
+use Rattle.refusal.specs.Conditions.{wordRefusal}
+use Rattle.word.specs.Word.{wordPart}
+
+-- "The longest Lyndon word from i has length next[i] − i (documents 000 and 004)": so long is the part wherever it is not refused
+abbrev pub WordIsLongest : Type 0
+WordIsLongest =
+    (y : List ℕ) (i : ℕ) → wordRefusal (length y) i ≡ 0
+    → (length (wordPart y i) ≡ next (ranks y) i - i) × (length (wordPart y i) ≡ longestLyndon (ranks y) i)
