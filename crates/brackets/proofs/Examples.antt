@@ -3,18 +3,11 @@ use mathlib.Core.Path.{_≡_, refl}
 use mathlib.Core.Bool.{Bool, true, false}
 use mathlib.Core.List.{List, [], _∷_}
 use Prim.Native.Nat.{ℕ}
-use lib.IntN.{ℤ, pos, negsuc}
 use Rattle.suffix.specs.Search.{leastFrom, anyBelow, countBelow}
 use Rattle.refusal.specs.Numbers.{lowestFrom, lowest}
 use Rattle.refusal.specs.Conditions.{byteBit, bitOf, spareBitSet, closedTooEarly, leftOpen, treeRefusal, questionRefusal}
-use Rattle.brackets.specs.Excess.{byteExcess, byteMinExcess}
 use Rattle.brackets.specs.Shape.{forestsFrom, shapeOf, previousTable, nextTable}
 use Rattle.brackets.specs.Answers.{Figures, value, refused, placeOf, previousAnswer, nextAnswer, placeAnswer}
-
--- "For hexadecimal CD they are 2 and 0."; the byte 02 closes first, and has one opening
-byte-excesses : byteExcess 0xCD ∷ byteMinExcess 0xCD ∷ byteExcess 0x02 ∷ byteMinExcess 0x02 ∷ [] ≡ pos 2 ∷ pos 0 ∷ negsuc 5 ∷ negsuc 5 ∷ []
-unfolding byteExcess byteMinExcess byteBit
-byte-excesses = refl
 
 -- M9, M10, M11, the tree of banana, and that of its first four rows, which is a tree of 4 positions and not of 6
 verdicts :

@@ -11,7 +11,7 @@ use lib.ListN.{length, getD}
 use borrow.Author.Tests.{eq-eqb, eqb-true, eqb-false}
 use Rattle.suffix.specs.Search.{leastFrom}
 use Rattle.suffix.specs.Tree.{treeLength}
-use Rattle.suffix.proofs.Cases.{Tri, lt, eq, gt, tri, Test, holds, fails, test, le-unless}
+use Rattle.suffix.proofs.Cases.{Tri, lt, eq, gt, tri, Test, holds, fails, test, le-unless, both-true}
 use Rattle.suffix.proofs.Search.{Least, found, absent, least}
 use Rattle.refusal.specs.Conditions.{bitOf, openings, questionRefusal}
 use Rattle.brackets.specs.Shape.{previousTable, nextTable}
@@ -51,11 +51,6 @@ allowed n t i e = record { none = e; small = small; bytes = bytes; inside = insi
 -- there are openings enough
 pub enough : (n : ℕ) (t : List ℕ) (i : ℕ) → length t ≡ treeLength n → flawNumber n t ≡ 0 → i < n → i < opened (bitOf t) (8 * length t)
 enough n t i l e h = omega (arith, sound n t e .even .closed, opened-grows (bitOf t) (2 * n) (8 * length t) (omega arith))
-
-both-true : (a b : Bool) → a && b ≡ true → (a ≡ true) × (b ≡ true)
-both-true true true e = (refl, refl)
-both-true true false e = absurd (true≢false (sym e))
-both-true false b e = absurd (true≢false (sym e))
 
 -- k is the place of the opening of i
 module _ (n : ℕ) (t : List ℕ) (i : ℕ) (e : flawNumber n t ≡ 0) (inside : i < n) (k : ℕ) (bit : bitOf t k ≡ true) (number : opened (bitOf t) k ≡ i) where

@@ -13,10 +13,11 @@ use mir.Syntax.{w32}
 use mir.Val.{SFits, toZ, ofZ}
 use mir.Facts.{toZ-ofZ}
 use Rattle.suffix.specs.Search.{allBelow, countBelow, maximumBelow}
-use Rattle.suffix.proofs.Cases.{Tri, lt, eq, gt, tri}
+use Rattle.suffix.proofs.Cases.{Tri, lt, eq, gt, tri, both-true}
 use Rattle.suffix.proofs.Search.{all-at, count-most, maximum-most}
 use Rattle.refusal.specs.Conditions.{byteBit}
-use Rattle.brackets.specs.Excess.{byteExcess, byteMinExcess, listFrom}
+use Rattle.excess.specs.Excess.{byteExcess, byteMinExcess, listFrom}
+use Rattle.excess.proofs.Entries.{entry}
 use Rattle.brackets.specs.Searching.{ones, dip, isMinus, turnedSum, stepSum}
 
 -- a number that fits is what its bits say
@@ -115,11 +116,6 @@ rule-holds : allBelow 256 rule ≡ true
 unfolding allBelow rule eqZ byteExcess byteMinExcess byteBit countBelow maximumBelow dip
 rule-holds = refl
 
-both-true : (a b : Bool) → a && b ≡ true → (a ≡ true) × (b ≡ true)
-both-true true true e = (refl, refl)
-both-true true false e = absurd (true≢false (sym e))
-both-true false b e = absurd (true≢false (sym e))
-
 rules : (b : ℕ) → b < 256 → (byteExcess b ≡ subℕ (2 * ones b 8) 8) × (byteMinExcess b ≡ subℕ 0 (dip b))
 unfolding rule
 rules b h =
@@ -134,14 +130,6 @@ unfolding dip
 dip-low b = maximum-most (λ m. m - 2 * ones b m) 9 8 (λ m h. omega arith)
 
 -- an entry of a table, as the code reads it
-entry-from : (f : ℕ → ℤ) (i t k : ℕ) → k < t → getD (listFrom i t f) k (pos 0) ≡ f (i + k)
-entry-from f i zero k h = absurd (omega arith)
-entry-from f i (suc t) zero h = ap f (omega arith)
-entry-from f i (suc t) (suc k) h = entry-from f (suc i) t k (omega arith) ∙ ap f (omega arith)
-
-pub entry : (f : ℕ → ℤ) (t : List ℤ) (b : ℕ) → b < 256 → t ≡ listFrom 0 256 f → getD t b (pos 0) ≡ f b
-entry f t b h e = ap (λ v. getD v b (pos 0)) e ∙ entry-from f 0 256 b h ∙ ap f (omega arith)
-
 module _ (b : ℕ) (h : b < 256) where
   pub excess-is : {t : List ℤ} → t ≡ listFrom 0 256 byteExcess → toZ w32 (ofZ w32 (getD t b (pos 0))) ≡ subℕ (2 * ones b 8) 8
   excess-is {t} e = ap (λ z. toZ w32 (ofZ w32 z)) (entry byteExcess t b h e ∙ rules b h .0) ∙ back (subℕ (2 * ones b 8) 8) (omega (arith, mag-sub (2 * ones b 8) 8, ones-most b))

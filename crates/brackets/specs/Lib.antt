@@ -1,5 +1,4 @@
 pub mod Shape
-pub mod Excess
 pub mod Answers
 pub mod Claims
 pub mod Searching

@@ -8,7 +8,7 @@ ghost use lib.ListN.{length, getD};
 ghost use lib.Signed.{mag};
 ghost use Rattle.suffix.specs.Tree.{treeLength};
 ghost use Rattle.refusal.specs.Conditions.{bitOf, spareBitSet, treeRefusal, questionRefusal};
-ghost use Rattle.brackets.specs.Excess.{byteExcess, byteMinExcess, excesses, minExcesses};
+ghost use Rattle.excess.specs.Excess.{excesses, minExcesses};
 ghost use Rattle.brackets.specs.Shape.{previousTable, nextTable};
 ghost use Rattle.brackets.specs.Answers.{
   verdictNumber,
@@ -21,11 +21,9 @@ ghost use Rattle.brackets.specs.Answers.{
 };
 ghost use Rattle.brackets.specs.Searching.{opened, Live, Searched, ByteSearched, isMinus, Ready, bitFrom, byteEdge, isPast, turnedSum, stepAt, stepSum, byteFrom, ones, stopsAt, passedAt, passedSum};
 
-mod tables;
-
+use excess::EXCESS;
+use excess::MIN_EXCESS;
 use refusal::Refusal;
-use tables::EXCESS;
-use tables::MIN_EXCESS;
 
 pub enum Verdict {
     Accepted,
@@ -41,20 +39,6 @@ pub enum Answer {
 struct Search {
     at: usize,
     sum: i32,
-}
-
-// The signed sum of a byte's brackets.
-pub fn byte_excess(byte: u8) -> i32
-    ensures { λ r. ⌜ r ≡ byteExcess byte ⌝ }
-{
-    EXCESS[byte as usize]
-}
-
-// The lowest running sum of a byte's brackets, the empty start included.
-pub fn byte_min_excess(byte: u8) -> i32
-    ensures { λ r. ⌜ r ≡ byteMinExcess byte ⌝ }
-{
-    MIN_EXCESS[byte as usize]
 }
 
 fn wide(byte: u8) -> usize

@@ -1,7 +1,7 @@
 -- Ways in which numbers and tests fall out, for proofs by cases.
-use mathlib.Core.Path.{_≡_, refl}
+use mathlib.Core.Path.{_≡_, refl, sym}
 use mathlib.Core.Logic.{_≢_}
-use mathlib.Core.Bool.{Bool, true, false}
+use mathlib.Core.Bool.{Bool, true, false, _&&_, true≢false}
 use Prim.Native.Nat.{ℕ, zero, suc, _≤_, _<_}
 use native.Mathlib.Omega.{arith}
 
@@ -52,3 +52,8 @@ le-unless a b q = go (tri a b)
     go (lt h) = omega arith
     go (eq h) = omega arith
     go (gt h) = absurd (q h)
+
+pub both-true : (a b : Bool) → a && b ≡ true → (a ≡ true) × (b ≡ true)
+both-true true true e = (refl, refl)
+both-true true false e = absurd (true≢false (sym e))
+both-true false b e = absurd (true≢false (sym e))

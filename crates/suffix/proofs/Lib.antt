@@ -11,4 +11,6 @@ pub mod Lyndon
 pub mod Levels
 pub mod Hanging
 pub mod Written
+pub mod Places
+pub mod Bytes
 pub mod Laws

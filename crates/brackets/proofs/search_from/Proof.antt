@@ -8,7 +8,7 @@ use lib.IntN.{pos}
 use lib.ListN.{length}
 use lib.Signed.{mag}
 use Rattle.refusal.specs.Conditions.{byteBit, bitOf}
-use Rattle.brackets.specs.Excess.{byteExcess, byteMinExcess}
+use Rattle.excess.specs.Excess.{byteExcess, byteMinExcess}
 use Rattle.brackets.specs.Searching.{byteEdge, isPast, isMinus, Searched, ByteSearched, Ready}
 use Rattle.brackets.proofs.Searching.{passed-small}
 use Rattle.brackets.proofs.Legs.{NotFallen, not-fallen, searched-small, between-ends, ready-ends, near-edge, edge-is, edges, last-leg, first-falls, three-legs}

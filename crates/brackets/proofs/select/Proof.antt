@@ -7,7 +7,7 @@ use Prim.Native.Nat.{ℕ, suc, _+_, _-_, _*_, _/_, _≤_, _<_}
 use native.Mathlib.Omega.{arith}
 use lib.ListN.{length}
 use Rattle.refusal.specs.Conditions.{byteBit, bitOf}
-use Rattle.brackets.specs.Excess.{byteExcess}
+use Rattle.excess.specs.Excess.{byteExcess}
 use Rattle.brackets.specs.Searching.{opened}
 use Rattle.brackets.proofs.Heights.{opens, shuts}
 use Rattle.brackets.proofs.select.Statement.{statement}

@@ -1,4 +1,4 @@
--- `brackets::byte_min_excess` meets its contract: the table is the list of the values at 0 to 255, which antt computes.
+-- `excess::byte_min_excess` meets its contract: the table is the list of the values at 0 to 255, which antt computes.
 use mathlib.Core.Path.{refl, _∙_}
 use borrow.Author.Needs.{needs}
 use lib.IntN.{pos}
@@ -6,10 +6,10 @@ use lib.ListN.{getD}
 use mir.Syntax.{w32}
 use mir.Facts.{toZ-ofZ}
 use Rattle.refusal.specs.Conditions.{byteBit}
-use Rattle.brackets.specs.Excess.{byteMinExcess, minExcesses}
-use Rattle.brackets.proofs.Signed.{entry}
-use Rattle.brackets.proofs.byte_min_excess.Statement.{statement}
-use Rattle.brackets.proofs.byte_min_excess.Tie as tie
+use Rattle.excess.specs.Excess.{byteMinExcess, minExcesses}
+use Rattle.excess.proofs.Entries.{entry}
+use Rattle.excess.proofs.byte_min_excess.Statement.{statement}
+use Rattle.excess.proofs.byte_min_excess.Tie as tie
 
 mul-result : tie.Need-mul-result
 mul-result c = search needs

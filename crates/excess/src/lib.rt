@@ -1,3 +1,7 @@
+// The brackets of a byte: their signed sum and their lowest running sum, for all 256 byte values.
+ghost use mathlib.Core.Path.{_≡_};
+ghost use Rattle.excess.specs.Excess.{byteExcess, byteMinExcess};
+
 // For each byte value the signed sum of its brackets: +1 open, -1 close.
 pub const EXCESS: [i32; 256] = [
     -8,
@@ -517,3 +521,17 @@ pub const MIN_EXCESS: [i32; 256] = [
     -1,
     0,
 ];
+
+// The signed sum of a byte's brackets.
+pub fn byte_excess(byte: u8) -> i32
+    ensures { λ r. ⌜ r ≡ byteExcess byte ⌝ }
+{
+    EXCESS[byte as usize]
+}
+
+// The lowest running sum of a byte's brackets, the empty start included.
+pub fn byte_min_excess(byte: u8) -> i32
+    ensures { λ r. ⌜ r ≡ byteMinExcess byte ⌝ }
+{
+    MIN_EXCESS[byte as usize]
+}

@@ -1,0 +1,105 @@
+-- Each way out of a build answers, and leaves, what the definitions say.
+use mathlib.Core.Path.{_≡_, ap, _∙_}
+use mathlib.Core.Logic.{_≢_}
+use mathlib.Core.List.{List}
+use Prim.Native.Nat.{ℕ, _≤_}
+use native.Mathlib.Omega.{arith}
+use lib.ListN.{length}
+use borrow.Author.Tests.{ltb-false, eqb-true, not-false, eq-eqb, ne-eqb}
+use Rattle.suffix.specs.Rows.{tablesAfter, reach}
+use Rattle.suffix.specs.Tree.{treeLength, treeBytes}
+use Rattle.refusal.specs.declared.Refusal.{Refusal}
+use Rattle.refusal.specs.Numbers.{numberOf, lowest}
+use Rattle.refusal.specs.Conditions.{buildRefusal}
+use Rattle.refusal.proofs.Numbers.{positive, none-applies, neither}
+use Rattle.reuse.specs.Steps.{BuildState, afterRows}
+use Rattle.reuse.specs.Claims.{Exact}
+use Rattle.reuse.proofs.Exact.{exact}
+use Rattle.build.specs.declared.State.{State}
+use Rattle.build.specs.declared.Report.{Report}
+use Rattle.build.specs.declared.Built.{Built}
+use Rattle.build.specs.declared.Built.the-variants.{Finished, Halted, Refused}
+use Rattle.build.specs.States.{buildState}
+use Rattle.build.specs.Built.{Lent, lentAfter, comparisons, figuresOf, refusalOf, answer, lentAtExit, BuiltExactly}
+
+module _ (letters : List ℕ) (R : ℕ) (before : Lent) where
+  abbrev n : ℕ
+  n = length letters
+
+  pub refused : (k : Refusal) → numberOf k ≡ refusalOf letters R before → BuiltExactly letters R before before (Refused k)
+  unfolding answer lentAtExit
+  refused k e =
+      let ne = ne-eqb (refusalOf letters R before) 0 (omega (arith, positive k)) in
+      record {
+        answers = rw (ne, answer) (ap Rattle.build.specs.Built.refused e);
+        leaves = rw (ne, lentAtExit);
+        within = λ z. absurd (omega (arith, positive k));
+        bound = λ z. absurd (omega (arith, positive k));
+        whole = λ z. absurd (omega (arith, positive k));
+      }
+
+  -- what is lent and asked, where it is not refused
+  pub record Accepted : Type 0 where
+    pub few : n ≤ 1000000
+    pub previous : length (before .tables .previous) ≡ n
+    pub next : length (before .tables .next) ≡ n
+    pub previousMatch : length (before .tables .previousMatch) ≡ n
+    pub nextMatch : length (before .tables .nextMatch) ≡ n
+    pub tree : length (before .tree) ≡ treeLength n
+    pub rows : R ≤ n
+
+  module _ (taken : refusalOf letters R before ≡ 0) where
+    pub accepted : Accepted
+    unfolding refusalOf buildRefusal lowest
+    accepted =
+        let a = none-applies 0 _ _ taken in
+        let b = none-applies 1 _ _ (a .1) in
+        let c = none-applies 2 _ _ (b .1) in
+        let d = none-applies 3 _ _ (c .1) in
+        let v = neither _ _ (b .0) in
+        let u = neither _ _ (v .0) in
+        let p = neither _ _ (u .0) in
+        record {
+          few = ltb-false _ _ (a .0);
+          previous = eqb-true _ _ (not-false _ (p .0));
+          next = eqb-true _ _ (not-false _ (p .1));
+          previousMatch = eqb-true _ _ (not-false _ (u .1));
+          nextMatch = eqb-true _ _ (not-false _ (v .1));
+          tree = eqb-true _ _ (not-false _ (c .0));
+          rows = ltb-false _ _ (d .0);
+        }
+
+    module _ (s : State) (after : Lent) (i : buildState s (after .tables) ≡ afterRows letters R) (q : after .tree ≡ treeBytes letters R) (k : s .rows ≡ R) where
+      E : Exact letters R
+      E = exact letters R (accepted .rows)
+
+      abbrev report : Report
+      report = record { rows = s .rows; comparisons = s .comparisons; reach = s .reach }
+
+      tables : after .tables ≡ tablesAfter letters R
+      tables = ap (λ (b : BuildState). b .tables) i ∙ E .tables
+
+      counted : s .comparisons ≡ afterRows letters R .progress .comparisons
+      counted = ap (λ (b : BuildState). b .progress .comparisons) i
+
+      reached : s .reach ≡ reach letters R
+      reached = ap (λ (b : BuildState). b .progress .reach) i ∙ E .reached
+
+      exactly : (r : Built) → figuresOf r ≡ answer letters R before → BuiltExactly letters R before after r
+      unfolding lentAtExit lentAfter comparisons
+      exactly r a =
+          record {
+            answers = a;
+            leaves = rw (eq-eqb (refusalOf letters R before) 0 taken, lentAtExit, ← q, ← tables);
+            within = λ z. E .within;
+            bound = λ z. E .bound;
+            whole = λ z w h. omega (arith, E .bound h, E .within);
+          }
+
+      pub finished : R ≡ n → BuiltExactly letters R before after (Finished report)
+      unfolding answer comparisons
+      finished h = exactly (Finished report) (rw (eq-eqb (refusalOf letters R before) 0 taken, eq-eqb R n h, answer, k, counted, reached))
+
+      pub halted : R ≢ n → BuiltExactly letters R before after (Halted report)
+      unfolding answer comparisons
+      halted h = exactly (Halted report) (rw (eq-eqb (refusalOf letters R before) 0 taken, ne-eqb R n h, answer, k, counted, reached))

@@ -1,0 +1,48 @@
+-- Steps 1 and 2 as the code goes them.
+use mathlib.Core.Path.{_≡_, sym, _∙_}
+use mathlib.Core.Logic.{_≢_}
+use mathlib.Core.Bool.{Bool, true, false}
+use mathlib.Core.List.{List}
+use Prim.Native.Nat.{ℕ, suc, _+_, _-_, _≤_, _<_}
+use native.Mathlib.Numerals.{add-one}
+use native.Mathlib.Omega.{arith}
+use lib.Dec.{ltb}
+use lib.ListN.{length, getD}
+use Rattle.suffix.specs.Rows.{Tables}
+use Rattle.reuse.specs.Steps.{Progress, SettledPair, scan, scanFrom, reuse}
+use Rattle.reuse.proofs.Scan.{scan-equal, scan-unequal, stopped}
+use Rattle.reuse.proofs.Settle.{settle-scan, settle-by-next, settle-by-previous}
+use Rattle.build.specs.States.{settledFrom}
+
+-- ---- a scan that stands at m: what is left of it is the whole
+
+module _ (y : List ℕ) (s : Progress) (l r m : ℕ) {whole : SettledPair} (is : whole ≡ scanFrom y s l r m) where
+  pub at-end : {u : SettledPair} → length y ≤ r + m → u ≡ stopped l r m (s .comparisons) false → u ≡ whole
+  unfolding scanFrom scan
+  at-end h q = let z : length y - (r + m) ≡ 0 = omega arith in q ∙ sym (is ∙ rw z)
+
+  module _ (h : r + m < length y) where
+    left : length y - (r + m) ≡ suc (length y - (r + (m + 1)))
+    left = omega arith
+
+    pub at-equal : getD y (l + m) 0 ≡ getD y (r + m) 0 → whole ≡ scanFrom y (record { reach = s .reach; shift = s .shift; comparisons = s .comparisons + 1 }) l r (m + 1)
+    unfolding scanFrom
+    at-equal e = is ∙ rw left (scan-equal y l r m (length y - (r + (m + 1))) (s .comparisons) e ∙ rw (add-one m, add-one (s .comparisons)))
+
+    pub at-unequal : {u : SettledPair} → getD y (l + m) 0 ≢ getD y (r + m) 0
+        → u ≡ stopped l r m (s .comparisons + 1) (ltb (getD y (l + m) 0) (getD y (r + m) 0)) → u ≡ whole
+    unfolding scanFrom
+    at-unequal e q = q ∙ sym (is ∙ rw (left, add-one (s .comparisons)) (scan-unequal y l r m (length y - (r + (m + 1))) (s .comparisons) e))
+
+-- ---- a pair of which nothing is known: x is next[l - d], and v the match that is recorded
+
+module _ (known : Bool) (y : List ℕ) (s : Progress) (t : Tables) (l r m : ℕ) (e : known ≡ false) where
+  pub scans : s .reach ≤ r + m → settledFrom known y s t l r m ≡ scanFrom y s l r m
+  scans h = rw e (settle-scan y s t l r m h)
+
+  module _ (h : r + m < s .reach) (x v : ℕ) (q : x ≡ getD (t .next) (l - s .shift) 0) where
+    pub by-next : x ≡ r - s .shift → v ≡ getD (t .nextMatch) (l - s .shift) 0 → settledFrom known y s t l r m ≡ reuse y s l r v false
+    by-next p z = rw (e, z) (settle-by-next y s t l r m h (sym q ∙ p))
+
+    pub by-previous : x ≢ r - s .shift → v ≡ getD (t .previousMatch) (r - s .shift) 0 → settledFrom known y s t l r m ≡ reuse y s l r v true
+    by-previous p z = rw (e, z) (settle-by-previous y s t l r m h (rw q at p))

@@ -1,0 +1,41 @@
+-- `build::State::scan` meets its contract. The invariant: what is left of the scan is the whole.
+use mathlib.Core.Path.{_≡_, refl, _∙_}
+use Prim.Native.Nat.{_+_, _-_, _≤_}
+use native.Mathlib.Omega.{arith}
+use lib.ListN.{length}
+use Rattle.reuse.specs.Steps.{scanFrom}
+use Rattle.build.specs.States.{progressOf}
+use Rattle.build.proofs.Settling.{at-end, at-equal, at-unequal}
+use Rattle.build.proofs.State.scan.Statement.{statement}
+use Rattle.build.proofs.State.scan.Tie as tie
+
+abbrev Inv-loop : tie.InvT-loop
+Inv-loop self₀ letters l r from m₀ self m =
+    (r + m ≤ length letters) × (self .comparisons + from ≤ self₀ .comparisons + m) × (self .rows ≡ self₀ .rows)
+    × (scanFrom letters (progressOf self₀) l r from ≡ scanFrom letters (progressOf self) l r m)
+
+abbrev μ-loop : tie.MeasureT-loop
+μ-loop self₀ letters l r from m₀ self m = length letters - (r + m)
+
+returns : tie.Need-returns Inv-loop μ-loop
+returns c =
+    let b = c .before .before .before .before .before in
+    let i = b .before .loop .inv in
+    (at-unequal _ _ _ _ _ (i .3) (b .loop-test .taken) (c .before .if1 .taken) (c .stop .ensures .0), c .stop .ensures .1 ∙ i .2)
+
+loop-again : tie.Need-loop-again Inv-loop μ-loop
+loop-again c =
+    let b = c .before .before .before .before in
+    let i = b .before .loop .inv in
+    (omega arith, omega arith, i .2, at-equal _ _ _ _ _ (i .3) (b .loop-test .taken) (c .if1 .left))
+
+returns-2 : tie.Need-returns-2 Inv-loop μ-loop
+returns-2 c =
+    let i = c .before .before .loop .inv in
+    (at-end _ _ _ _ _ (i .3) (c .before .loop-test .left) (c .stop2 .ensures .0), c .stop2 .ensures .1 ∙ i .2)
+
+pub scan-spec : {M : Type 1} → statement M
+scan-spec =
+    tie.close
+    (tie.spec Inv-loop μ-loop (λ c. (omega arith, omega arith, refl, refl)) (λ c. omega arith) (λ c. omega arith) (λ c. omega arith) (λ c. omega arith) (λ c. omega arith) (λ c. omega arith)
+    (λ c κs. (omega arith, omega arith)) returns (λ c. omega arith) (λ c. omega arith) loop-again (λ c κs. (omega arith, omega arith)) returns-2)

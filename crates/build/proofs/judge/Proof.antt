@@ -1,0 +1,37 @@
+-- `build::judge` meets its contract.
+use mathlib.Core.Logic.{⊎-elim}
+use borrow.Author.Needs.{needs}
+use borrow.Author.Tests.{lt-ltb, le-ltb, eq-eqb, ne-eqb}
+use Rattle.refusal.specs.Numbers.{lowest, lowestFrom}
+use Rattle.refusal.specs.Conditions.{buildRefusal}
+use Rattle.build.proofs.judge.Statement.{statement}
+use Rattle.build.proofs.judge.Tie as tie
+
+returns : tie.Need-returns
+unfolding buildRefusal lowest lowestFrom
+returns c = simp (lt-ltb _ _ (c .if1 .taken))
+
+returns-2 : tie.Need-returns-2
+unfolding buildRefusal lowest lowestFrom
+returns-2 c =
+    let n = le-ltb _ _ (c .before .if1 .left) in
+    ⊎-elim (λ w. simp (n, ne-eqb _ _ (w .taken)))
+    (⊎-elim (λ w. simp (n, eq-eqb _ _ (w .0 .left), w .1 .taken)) (⊎-elim (λ w. simp (n, eq-eqb _ _ (w .0 .left), w .1 .left, w .2 .taken)) (λ w. simp (n, eq-eqb _ _ (w .0 .left), w .1 .left, w .2 .left, w .3 .taken))))
+    (c .if2 .came)
+
+returns-3 : tie.Need-returns-3
+unfolding buildRefusal lowest lowestFrom
+returns-3 c = simp (le-ltb _ _ (c .before .before .before .before .before .if1 .left), eq-eqb _ _ (c .before .before .before .before .if2 .left), c .before .before .before .if3 .left, c .before .before .if4 .left, c .before .if5 .left, ne-eqb _ _ (c .if6 .taken))
+
+returns-4 : tie.Need-returns-4
+unfolding buildRefusal lowest lowestFrom
+returns-4 c =
+    simp (le-ltb _ _ (c .before .before .before .before .before .before .if1 .left), eq-eqb _ _ (c .before .before .before .before .before .if2 .left), c .before .before .before .before .if3 .left, c .before .before .before .if4 .left, c .before .before .if5 .left, eq-eqb _ _ (c .before .if6 .left), lt-ltb _ _ (c .if7 .taken))
+
+returns-5 : tie.Need-returns-5
+unfolding buildRefusal lowest lowestFrom
+returns-5 c =
+    simp (le-ltb _ _ (c .before .before .before .before .before .before .if1 .left), eq-eqb _ _ (c .before .before .before .before .before .if2 .left), c .before .before .before .before .if3 .left, c .before .before .before .if4 .left, c .before .before .if5 .left, eq-eqb _ _ (c .before .if6 .left), le-ltb _ _ (c .if7 .left))
+
+pub judge-spec : {M : Type 1} → statement M
+judge-spec = tie.close (tie.spec returns returns-2 (λ c. search needs) returns-3 returns-4 returns-5)

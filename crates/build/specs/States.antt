@@ -1,0 +1,47 @@
+-- What the contracts of the private functions are written with: the code's values as those of the reuse steps.
+use mathlib.Core.Bool.{Bool, true, false}
+use mathlib.Core.List.{List}
+use Prim.Native.Nat.{ℕ, _+_, _≤_, _<_}
+use lib.ListN.{replicate}
+use Rattle.suffix.specs.Rows.{Tables}
+use Rattle.reuse.specs.Steps.{Progress, BuildState, SettledPair, settle}
+use Rattle.refusal.specs.Numbers.{numberOf}
+use Rattle.build.specs.declared.State.{State}
+use Rattle.build.specs.declared.SettledPair as declared
+use Rattle.build.specs.declared.Verdict.{Verdict}
+use Rattle.build.specs.declared.Verdict.the-variants.{Taken, Refused}
+
+abbrev pub progressOf : State → Progress
+progressOf s = record { reach = s .reach; shift = s .shift; comparisons = s .comparisons }
+
+abbrev pub pairOf : declared.SettledPair → SettledPair
+pairOf u = record { progress = progressOf (u .state); match = u .matched; leftSmaller = u .«left_smaller» }
+
+abbrev pub tablesOf : List ℕ → List ℕ → List ℕ → List ℕ → Tables
+tablesOf previous next previousMatch nextMatch = record { previous = previous; next = next; previousMatch = previousMatch; nextMatch = nextMatch }
+
+-- n entries each, every one none, and every match 0
+abbrev pub cleared : ℕ → Tables
+cleared n = tablesOf (replicate n n) (replicate n n) (replicate n 0) (replicate n 0)
+
+abbrev pub buildState : State → Tables → BuildState
+buildState s t = record { progress = progressOf s; tables = t }
+
+-- what is asked where (l, r) is settled from m, in a string of n letters: each place is in the string, and the count fits
+pub record Safe (n : ℕ) (s : Progress) (l r m : ℕ) : Type 0 where
+  pub before : l < r
+  pub small : r < n
+  pub fits : r + m ≤ n
+  pub top : s .reach ≤ n
+  pub shift : r + m < s .reach → s .shift ≤ l
+  pub few : s .comparisons ≤ n + r + r
+
+-- (l, r) is settled from m; or it is known that it has match m and that the suffix at r is the smaller
+abbrev pub settledFrom : Bool → List ℕ → Progress → Tables → ℕ → ℕ → ℕ → SettledPair
+settledFrom true y s t l r m = record { progress = s; match = m; leftSmaller = false }
+settledFrom false y s t l r m = settle y s t l r m
+
+-- the number of the refusal, or 0
+abbrev pub verdictNumber : Verdict → ℕ
+verdictNumber Taken = 0
+verdictNumber (Refused k) = numberOf k

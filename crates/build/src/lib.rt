@@ -1,0 +1,364 @@
+// The build: from a string to four tables and a tree, in a given number of rows.
+ghost use mathlib.Core.Path.{_≡_};
+ghost use mathlib.Core.Bool.{false};
+ghost use mathlib.Core.List.{[], _∷_};
+ghost use Prim.Native.Nat.{_+_, _-_, _/_, _%_, _^_, _≤_, _<_};
+ghost use lib.ListN.{length, getD, set, replicate};
+ghost use Rattle.suffix.specs.Tree.{treeLength, treeBytes};
+ghost use Rattle.refusal.specs.Conditions.{buildRefusal};
+ghost use Rattle.reuse.specs.Steps.{scanFrom, afterRows};
+ghost use Rattle.build.specs.States.{progressOf, pairOf, tablesOf, cleared, buildState, Safe, settledFrom, verdictNumber};
+ghost use Rattle.build.specs.Built.{lent, BuiltExactly};
+use refusal::Refusal;
+
+// The state of a build: reach c, shift d, the rows done and the comparisons made.
+struct State {
+    reach: usize,
+    shift: usize,
+    rows: usize,
+    comparisons: usize,
+}
+
+// A pair (l, r) that is settled: the state after it, its match, and whether the suffix at l is the smaller.
+struct SettledPair {
+    state: State,
+    matched: usize,
+    left_smaller: bool,
+}
+
+// The figures of a build that is not refused.
+pub struct Report {
+    pub rows: usize,
+    pub comparisons: usize,
+    pub reach: usize,
+}
+
+pub enum Built {
+    Finished(Report),
+    Halted(Report),
+    Refused(Refusal),
+}
+
+// Whether what is asked can be built over what is lent.
+enum Verdict {
+    Taken,
+    Refused(Refusal),
+}
+
+fn wide(x: u32) -> usize
+    ensures { λ r. ⌜ (r ≡ x) × (r < 4294967296) ⌝ }
+{
+    x as usize
+}
+
+fn read(table: &[u32], i: usize) -> usize
+    requires { ⌜ i < length (now table) ⌝ }
+    ensures { λ r. ⌜ (r ≡ getD (now (table .entry)) i 0) × (r < 4294967296) ⌝ }
+{
+    wide(table[i])
+}
+
+// table[i] = value with match m.
+fn record_entry(table: &mut [u32], matches: &mut [u32], i: usize, value: usize, m: usize)
+    requires { ⌜ (i < length (now table)) × (i < length (now matches)) × (value ≤ 1000000) × (m ≤ 1000000) ⌝ }
+    ensures { λ _. ⌜ (now (table .exit) ≡ set (now (table .entry)) i value) × (now (matches .exit) ≡ set (now (matches .entry)) i m) ⌝ }
+{
+    table[i] = value as u32;
+    matches[i] = m as u32;
+}
+
+impl State {
+    // The end of a scan of (l, r), which finds the match m.
+    fn stop(mut self, l: usize, r: usize, m: usize, left_smaller: bool) -> SettledPair
+        requires { ⌜ (l < r) × (r + m ≤ 1000000) ⌝ }
+        ensures { λ u. ⌜ pairOf u ≡ record { progress = record { reach = r + m; shift = r - l; comparisons = self .comparisons }; match = m; leftSmaller = «left_smaller» } ⌝ }
+        ensures { λ u. ⌜ u .state .rows ≡ self .rows ⌝ }
+    {
+        self.reach = r + m;
+        self.shift = r - l;
+        SettledPair {
+            state: self,
+            matched: m,
+            left_smaller,
+        }
+    }
+
+    // Step 1: compares letters[l + m] with letters[r + m], raising m while they are equal.
+    fn scan(mut self, letters: &[u8], l: usize, r: usize, from: usize) -> SettledPair
+        requires { ⌜ (l < r) × (r + from ≤ length (now letters)) × (length (now letters) ≤ 1000000) × (self .comparisons ≤ 1000000000) ⌝ }
+        ensures { λ u. ⌜ pairOf u ≡ scanFrom (now (letters .entry)) (progressOf self) l r from ⌝ }
+        ensures { λ u. ⌜ u .state .rows ≡ self .rows ⌝ }
+    {
+        let mut m = from;
+        while r + m < letters.len() {
+            self.comparisons += 1;
+            let a = letters[l + m];
+            let b = letters[r + m];
+            if a != b {
+                return self.stop(l, r, m, a < b);
+            }
+            m += 1;
+        }
+        // at n, the suffix at r is the smaller
+        self.stop(l, r, m, false)
+    }
+
+    // Steps 1 and 2: settles (l, r) from m, unless it is known to have match m and the smaller suffix at r. No previous entry is read.
+    fn settle(
+        self,
+        letters: &[u8],
+        next: &[u32],
+        previous_match: &[u32],
+        next_match: &[u32],
+        l: usize,
+        r: usize,
+        m: usize,
+        known: bool,
+    ) -> SettledPair
+        requires { ⌜ length (now letters) ≤ 1000000 ⌝ }
+        requires { ⌜ (length (now next) ≡ length (now letters)) × (length (now «previous_match») ≡ length (now letters)) × (length (now «next_match») ≡ length (now letters)) ⌝ }
+        requires { ⌜ (known ≡ false → Safe (length (now letters)) (progressOf self) l r m) ⌝ }
+        ensures { λ u.
+            ⌜ pairOf u
+            ≡ settledFrom known (now (letters .entry)) (progressOf self)
+            (tablesOf [] (now (next .entry)) (now («previous_match» .entry)) (now («next_match» .entry)))
+            l
+            r
+            m ⌝ }
+        ensures { λ u. ⌜ u .state .rows ≡ self .rows ⌝ }
+    {
+        if known {
+            return SettledPair {
+                state: self,
+                matched: m,
+                left_smaller: false,
+            };
+        }
+        let mut from = m;
+        if r + m < self.reach {
+            let a = l - self.shift;
+            let b = r - self.shift;
+            if read(next, a) == b {
+                let v = read(next_match, a);
+                if r + v < self.reach {
+                    return SettledPair {
+                        state: self,
+                        matched: v,
+                        left_smaller: false,
+                    };
+                }
+            } else {
+                let w = read(previous_match, b);
+                if r + w < self.reach {
+                    return SettledPair {
+                        state: self,
+                        matched: w,
+                        left_smaller: true,
+                    };
+                }
+            }
+            from = self.reach - r;
+        }
+        self.scan(letters, l, r, from)
+    }
+}
+
+// Sets bit k, which is 0.
+fn set_bit(tree: &mut [u8], k: usize)
+    requires { ⌜ (k / 8 < length (now tree)) × (getD (now tree) (k / 8) 0 + 2 ^ (k % 8) < 256) ⌝ }
+    ensures { λ _. ⌜ now (tree .exit) ≡ set (now (tree .entry)) (k / 8) (getD (now (tree .entry)) (k / 8) 0 + 2 ^ (k % 8)) ⌝ }
+{
+    let weight = 1u8 << (k % 8);
+    tree[k / 8] = tree[k / 8] + weight;
+}
+
+// All rows, over tables and a tree that are cleared.
+fn build_rows(
+    letters: &[u8],
+    rows: usize,
+    previous: &mut [u32],
+    next: &mut [u32],
+    previous_match: &mut [u32],
+    next_match: &mut [u32],
+    tree: &mut [u8],
+) -> State
+    requires { ⌜ (length (now letters) ≤ 1000000) × (rows ≤ length (now letters)) ⌝ }
+    requires { ⌜ tablesOf (now previous) (now next) (now «previous_match») (now «next_match») ≡ cleared (length (now letters)) ⌝ }
+    requires { ⌜ now tree ≡ replicate (treeLength (length (now letters))) 0 ⌝ }
+    ensures { λ s.
+        ⌜ buildState s (tablesOf (now (previous .exit)) (now (next .exit)) (now («previous_match» .exit)) (now («next_match» .exit)))
+        ≡ afterRows (now (letters .entry)) rows ⌝ }
+    ensures { λ s. ⌜ now (tree .exit) ≡ treeBytes (now (letters .entry)) rows ⌝ }
+    ensures { λ s. ⌜ s .rows ≡ rows ⌝ }
+{
+    if rows == 0 {
+        return State {
+            reach: 0,
+            shift: 0,
+            rows: 0,
+            comparisons: 0,
+        };
+    }
+    let n = letters.len();
+    let mut state = State {
+        reach: 1,
+        shift: 0,
+        rows: 1,
+        comparisons: 0,
+    };
+    let mut bit = 0;
+    'rows: loop {
+        set_bit(tree, bit);
+        bit += 1;
+        let r = state.rows;
+        if rows <= r {
+            break 'rows;
+        }
+        state.rows = r + 1;
+        let mut l = r - 1;
+        let mut m = 0;
+        let mut known = false;
+        'walk: loop {
+            let pair = state.settle(letters, next, previous_match, next_match, l, r, m, known);
+            let settled = pair.state;
+            state = settled;
+            m = pair.matched;
+            if pair.left_smaller {
+                record_entry(previous, previous_match, r, l, m);
+                break 'walk;
+            }
+            record_entry(next, next_match, l, r, m);
+            bit += 1;
+            let p = read(previous, l);
+            if p == n {
+                record_entry(previous, previous_match, r, n, 0);
+                break 'walk;
+            }
+            let v = read(previous_match, l);
+            if v < m {
+                record_entry(previous, previous_match, r, p, v);
+                break 'walk;
+            }
+            known = m < v;
+            l = p;
+        }
+    }
+    state
+}
+
+fn fill(table: &mut [u32], value: usize)
+    requires { ⌜ value ≤ 1000000 ⌝ }
+    ensures { λ _. ⌜ now (table .exit) ≡ replicate (length (now (table .entry))) value ⌝ }
+{
+    let entry = value as u32;
+    let mut i = 0;
+    while i < table.len() {
+        table[i] = entry;
+        i += 1;
+    }
+}
+
+// Every entry is none, and every match 0.
+fn clear_tables(
+    n: usize,
+    previous: &mut [u32],
+    next: &mut [u32],
+    previous_match: &mut [u32],
+    next_match: &mut [u32],
+)
+    requires { ⌜ (n ≤ 1000000) × (length (now previous) ≡ n) × (length (now next) ≡ n) × (length (now «previous_match») ≡ n) × (length (now «next_match») ≡ n) ⌝ }
+    ensures { λ _. ⌜ tablesOf (now (previous .exit)) (now (next .exit)) (now («previous_match» .exit)) (now («next_match» .exit)) ≡ cleared n ⌝ }
+{
+    fill(previous, n);
+    fill(next, n);
+    fill(previous_match, 0);
+    fill(next_match, 0);
+}
+
+fn clear_tree(tree: &mut [u8])
+    ensures { λ _. ⌜ now (tree .exit) ≡ replicate (length (now (tree .entry))) 0 ⌝ }
+{
+    let mut i = 0;
+    while i < tree.len() {
+        tree[i] = 0;
+        i += 1;
+    }
+}
+
+// The verdict on rows of n letters, over tables and a tree of these lengths.
+fn judge(
+    n: usize,
+    rows: usize,
+    previous: usize,
+    next: usize,
+    previous_match: usize,
+    next_match: usize,
+    tree: usize,
+) -> Verdict
+    ensures { λ r. ⌜ verdictNumber r ≡ buildRefusal n rows previous next «previous_match» «next_match» tree ⌝ }
+{
+    if n > 1000000 {
+        return Verdict::Refused(Refusal::TooLong);
+    }
+    if previous != n || next != n || previous_match != n || next_match != n {
+        return Verdict::Refused(Refusal::TableLength);
+    }
+    if tree != (n + 3) / 4 {
+        return Verdict::Refused(Refusal::TreeLength);
+    }
+    if rows > n {
+        return Verdict::Refused(Refusal::TooManyRows);
+    }
+    Verdict::Taken
+}
+
+// Builds the four tables and the tree of the letters, as they are after `rows` rows. A refusal writes nothing.
+pub fn build(
+    letters: &[u8],
+    rows: usize,
+    previous: &mut [u32],
+    next: &mut [u32],
+    previous_match: &mut [u32],
+    next_match: &mut [u32],
+    tree: &mut [u8],
+) -> Built
+    ensures { λ r.
+        ⌜ BuiltExactly (now (letters .entry)) rows
+        (lent (now (previous .entry)) (now (next .entry)) (now («previous_match» .entry)) (now («next_match» .entry)) (now (tree .entry)))
+        (lent (now (previous .exit)) (now (next .exit)) (now («previous_match» .exit)) (now («next_match» .exit)) (now (tree .exit)))
+        r ⌝ }
+{
+    let n = letters.len();
+    let verdict = judge(
+        n,
+        rows,
+        previous.len(),
+        next.len(),
+        previous_match.len(),
+        next_match.len(),
+        tree.len(),
+    );
+    if let Verdict::Refused(refusal) = verdict {
+        return Built::Refused(refusal);
+    }
+    clear_tables(n, previous, next, previous_match, next_match);
+    clear_tree(tree);
+    let state = build_rows(
+        letters,
+        rows,
+        previous,
+        next,
+        previous_match,
+        next_match,
+        tree,
+    );
+    let report = Report {
+        rows: state.rows,
+        comparisons: state.comparisons,
+        reach: state.reach,
+    };
+    if rows == n {
+        return Built::Finished(report);
+    }
+    Built::Halted(report)
+}

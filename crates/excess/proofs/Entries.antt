@@ -1,0 +1,16 @@
+-- An entry of a table of all 256 byte values.
+use mathlib.Core.Path.{_≡_, ap, _∙_}
+use mathlib.Core.List.{List}
+use Prim.Native.Nat.{ℕ, zero, suc, _+_, _<_}
+use native.Mathlib.Omega.{arith}
+use lib.IntN.{ℤ, pos}
+use lib.ListN.{getD}
+use Rattle.excess.specs.Excess.{listFrom}
+
+entry-from : (f : ℕ → ℤ) (i t k : ℕ) → k < t → getD (listFrom i t f) k (pos 0) ≡ f (i + k)
+entry-from f i zero k h = absurd (omega arith)
+entry-from f i (suc t) zero h = ap f (omega arith)
+entry-from f i (suc t) (suc k) h = entry-from f (suc i) t k (omega arith) ∙ ap f (omega arith)
+
+pub entry : (f : ℕ → ℤ) (t : List ℤ) (b : ℕ) → b < 256 → t ≡ listFrom 0 256 f → getD t b (pos 0) ≡ f b
+entry f t b h e = ap (λ v. getD v b (pos 0)) e ∙ entry-from f 0 256 b h ∙ ap f (omega arith)

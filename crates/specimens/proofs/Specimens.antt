@@ -1,0 +1,18 @@
+-- M1 to M12, computed.
+use mathlib.Core.Path.{refl}
+use Rattle.suffix.specs.Search.{anyBelow, allBelow, countBelow, greatestBelow, leastFrom, sumBelow, maximumBelow, tabulate, tabulateFrom}
+use Rattle.suffix.specs.Order.{lexLess, lcp, suffixLess, lce}
+use Rattle.suffix.specs.Nearest.{previous, next, previousMatch, nextMatch}
+use Rattle.suffix.specs.Rows.{previousAfter, previousMatchAfter, nextSettled, nextAfter, nextMatchAfter, tablesAfter, isPair, pairReach, reach}
+use Rattle.suffix.specs.Tree.{hanging, forestAfter, parentheses, byteOf, treeAfter, treeBytes}
+use Rattle.suffix.specs.Lyndon.{isLyndon, part, longestLyndon}
+use Rattle.refusal.specs.Numbers.{lowest, lowestFrom}
+use Rattle.refusal.specs.Conditions.{byteBit, bitOf, spareBitSet, closedTooEarly, leftOpen, buildRefusal, readRefusal, wordRefusal}
+use Rattle.reuse.specs.Steps.{scan, scanFrom, reuse, settle, recordPrevious, recordNext, climb, advance, advances, stateOf, rowStart, row, start, afterRows}
+use Rattle.build.specs.Built.{lentAfter, comparisons, refusalOf, answer, lentAtExit}
+use Rattle.word.specs.Word.{wordPart}
+use Rattle.specimens.specs.Specimens.{SpecimensHold}
+
+pub specimens-hold : SpecimensHold
+unfolding anyBelow allBelow countBelow greatestBelow leastFrom sumBelow maximumBelow tabulate tabulateFrom lexLess lcp suffixLess lce previous next previousMatch nextMatch previousAfter previousMatchAfter nextSettled nextAfter nextMatchAfter tablesAfter isPair pairReach reach hanging forestAfter parentheses byteOf treeAfter treeBytes isLyndon part longestLyndon lowest lowestFrom byteBit bitOf spareBitSet closedTooEarly leftOpen buildRefusal readRefusal wordRefusal scan scanFrom reuse settle recordPrevious recordNext climb advance advances stateOf rowStart row start afterRows lentAfter comparisons refusalOf answer lentAtExit wordPart
+specimens-hold = refl
