@@ -10,8 +10,8 @@ use lib.ListN.{length}
 use borrow.Author.Tests.{eq-eqb, ne-eqb, eqb-true}
 use denote.Enum.Declared.{tagOf, declared}
 use Rattle.refusal.specs.Numbers.{numberOf}
+use Rattle.refusal.proofs.Numbers.{positive}
 use Rattle.refusal.specs.declared.Refusal.{Refusal}
-use Rattle.refusal.specs.declared.Refusal.the-variants.{TooLong, TableLength, TreeLength, TooManyRows, PositionOutside, SpareBitSet, ClosedTooEarly, LeftOpen}
 use Rattle.brackets.specs.Shape.{previousTable, nextTable}
 use Rattle.brackets.specs.Answers.{verdictNumber, Figures, value, refused, figuresOf, answered, Lent, refusalOf, lentAtExit}
 use Rattle.brackets.specs.declared.Verdict.{Verdict}
@@ -22,16 +22,6 @@ use Rattle.brackets.proofs.Verdict.{enum}
 use Rattle.brackets.proofs.Answer.{enum as answers}
 use Rattle.suffix.proofs.Cases.{Test, holds, fails, test}
 
-number-some : (k : Refusal) → numberOf k ≢ 0
-number-some TooLong = omega arith
-number-some TableLength = omega arith
-number-some TreeLength = omega arith
-number-some TooManyRows = omega arith
-number-some PositionOutside = omega arith
-number-some SpareBitSet = omega arith
-number-some ClosedTooEarly = omega arith
-number-some LeftOpen = omega arith
-
 -- a verdict by its tag
 pub accepted-of : (v : Verdict) → tagOf (declared enum) v ≡ 0 → verdictNumber v ≡ 0
 accepted-of Accepted e = refl
@@ -39,14 +29,14 @@ accepted-of (Refused k) e = absurd (omega arith)
 
 pub refused-of : (v : Verdict) → tagOf (declared enum) v ≡ 1 → verdictNumber v ≢ 0
 refused-of Accepted e = absurd (omega arith)
-refused-of (Refused k) e = number-some k
+refused-of (Refused k) e = λ z. omega (arith, positive k)
 
 -- what a question answers
 pub answered-value : (number v : ℕ) → number ≡ 0 → value v ≡ answered number v
 answered-value number v e = rw (eq-eqb number 0 e, answered)
 
 pub answered-refused : (number v : ℕ) (k : Refusal) → numberOf k ≡ number → refused (numberOf k) ≡ answered number v
-answered-refused number v k e = rw (e, ne-eqb number 0 (λ z. number-some k (e ∙ z)), answered)
+answered-refused number v k e = rw (e, ne-eqb number 0 (λ z. omega (arith, positive k, e)), answered)
 
 abbrev isValue : Figures → Bool
 isValue (value x) = true

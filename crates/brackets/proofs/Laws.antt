@@ -61,9 +61,9 @@ whole n t e = record { small = small; bytes = bytes; sound = sound n t (sym (tre
         go (holds w) = eqb-true (length t) (treeLength n) w
         go (fails w) = absurd (omega (arith, tree-3 n t small (eqb-false (length t) (treeLength n) w), e))
 
-pub trees-have-tables : TreesHaveTables
+pub treesHaveTables : TreesHaveTables
 unfolding previousTable nextTable
-trees-have-tables n t e =
+treesHaveTables n t e =
     let W = whole n t e in
     let B = W .sound .even in
     let z : 2 * n ≡ 2 * size (shapeOf n t) = omega (arith, shape-size n t B) in
@@ -90,11 +90,11 @@ module _ {n : ℕ} {t p x : List ℕ} (T : IsTreeOf n t p x) where
   no-flaw : flawNumber n t ≡ 0
   no-flaw = flaw-0 n t (spare-clear n t (T .spare)) (not-early n t (is-balanced .above)) (all-closed n t (omega (arith, is-balanced .closed)))
 
-pub trees-are-accepted : TreesAreAccepted
-trees-are-accepted n t p x h T = tree-flaw n t h (T .bytes) ∙ no-flaw T
+pub treesAreAccepted : TreesAreAccepted
+treesAreAccepted n t p x h T = tree-flaw n t h (T .bytes) ∙ no-flaw T
 
-pub tables-are-one : TablesAreOne
-tables-are-one n t p x T = (
+pub tablesAreOne : TablesAreOne
+tablesAreOne n t p x T = (
   ext-getD 0 p (previousTable n t) (lp ∙ sym (previous-length n t B)) (λ i h. same i (omega (arith, lp)) .0),
   ext-getD 0 x (nextTable n t) (lx ∙ sym (next-length n t B)) (λ i h. same i (omega (arith, lx)) .1),
 )
@@ -111,8 +111,8 @@ tables-are-one n t p x T = (
     same : (i : ℕ) → i < n → (getD p i 0 ≡ getD (previousTable n t) i 0) × (getD x i 0 ≡ getD (nextTable n t) i 0)
     same i h = rw (T .previous, T .next) (entry-one (entries (bitOf t) (is-laid T) n i (omega (arith, T .positions))) (table-entry n t B i h))
 
-pub equal-tables-equal-trees : EqualTablesEqualTrees
-equal-tables-equal-trees n t u p x a b T U = bytes-by-bits t u (T .bytes ∙ sym (U .bytes)) a b (λ k h. go k h (tri k (2 * n)))
+pub equalTablesEqualTrees : EqualTablesEqualTrees
+equalTablesEqualTrees n t u p x a b T U = bytes-by-bits t u (T .bytes ∙ sym (U .bytes)) a b (λ k h. go k h (tri k (2 * n)))
   where
     shapes : T .shape ≡ U .shape
     shapes = ends-tell (T .shape) (U .shape) 0 (sym (T .next) ∙ U .next)
@@ -171,16 +171,16 @@ built y R fits =
 
 reads-as : {n : ℕ} {t p x : List ℕ} → n ≤ 1000000 → IsTreeOf n t p x → ReadsAs n t p x
 reads-as {n} {t} {p} {x} h T =
-    let e = tables-are-one n t p x T in
-    record { tree = T; accepted = trees-are-accepted n t p x h T; previous = sym (e .0); next = sym (e .1) }
+    let e = tablesAreOne n t p x T in
+    record { tree = T; accepted = treesAreAccepted n t p x h T; previous = sym (e .0); next = sym (e .1) }
 
-pub finished-tree : FinishedTree
+pub finishedTree : FinishedTree
 unfolding treeBytes
-finished-tree y h = reads-as h (rw (← full-parents y, ← full-ends y) (built y (length y) (omega arith)))
+finishedTree y h = reads-as h (rw (← full-parents y, ← full-ends y) (built y (length y) (omega arith)))
 
-pub halted-tree : HaltedTree
+pub haltedTree : HaltedTree
 unfolding treeBytes firstBytes
-halted-tree y R fits small = reads-as small (rw (← rows-parents y R fits, ← rows-ends y R fits, same) (built y R fits))
+haltedTree y R fits small = reads-as small (rw (← rows-parents y R fits, ← rows-ends y R fits, same) (built y R fits))
   where
     g : ℕ → ℕ
     g = byteOf (λ k. getD (treeAfter y R) k false)
@@ -188,9 +188,9 @@ halted-tree y R fits small = reads-as small (rw (← rows-parents y R fits, ← 
     same : firstBytes R (treeBytes y R) ≡ tabulate (treeLength R) g
     same = tabulate-same (λ j. getD (treeBytes y R) j 0) g (treeLength R) (λ j h. tabulate-entry g (treeLength (length y)) j (omega arith))
 
-pub halted-tree-is-refused : HaltedTreeIsRefused
+pub haltedTreeIsRefused : HaltedTreeIsRefused
 unfolding treeBytes
-halted-tree-is-refused y R below small =
+haltedTreeIsRefused y R below small =
     let n = length y in
     let m = treeLength n in
     let t = written y R m in
@@ -201,12 +201,12 @@ halted-tree-is-refused y R below small =
     (early n t (suc (2 * R)) (omega arith)
     (omega (arith, written-opens y R m fits (omega arith), shuts (bitOf t) (2 * R) (clear (2 * R) (omega arith) (omega arith)))))
 
-pub questions-of-the-finished : QuestionsOfTheFinished
+pub questionsOfTheFinished : QuestionsOfTheFinished
 unfolding previousAnswer nextAnswer
-questions-of-the-finished y i h g =
+questionsOfTheFinished y i h g =
     let n = length y in
     let t = treeBytes y n in
-    let F = finished-tree y h in
+    let F = finishedTree y h in
     let W = whole n t (F .accepted) in
     let e : questionRefusal n t i ≡ 0 = question-flaw n t i h (W .bytes) g ∙ sym (tree-flaw n t h (W .bytes)) ∙ F .accepted in
     let p : getD (previousTable n t) i 0 ≡ previous y i = ap (λ s. getD s i 0) (F .previous) ∙ tabulate-entry (previous y) n i g in

@@ -20,7 +20,6 @@ ghost use Rattle.brackets.specs.Answers.{
   ReadBack,
 };
 ghost use Rattle.brackets.specs.Searching.{opened, Live, Searched, ByteSearched, isMinus, Ready, bitFrom, byteEdge, isPast, turnedSum, stepAt, stepSum, byteFrom, ones, stopsAt, passedAt, passedSum};
-
 use excess::EXCESS;
 use excess::MIN_EXCESS;
 use refusal::Refusal;

@@ -11,8 +11,7 @@ use lib.Seq.{getD-set-same}
 use Rattle.suffix.specs.Search.{countBelow}
 use Rattle.suffix.specs.Nearest.{previous}
 use Rattle.suffix.specs.Rows.{Tables}
-use Rattle.suffix.specs.Tree.{treeLength, treeBytes}
-use Rattle.suffix.specs.Claims.{unclosed}
+use Rattle.suffix.specs.Tree.{treeLength, treeBytes, unclosed}
 use Rattle.suffix.proofs.Order.{agree-fits}
 use Rattle.suffix.proofs.Nearest.{previous-low}
 use Rattle.suffix.proofs.Rows.{previousAfter-in}

@@ -13,6 +13,6 @@ use Rattle.build.specs.Built.{lentAfter, comparisons, refusalOf, answer, lentAt
 use Rattle.word.specs.Word.{wordPart}
 use Rattle.specimens.specs.Specimens.{SpecimensHold}
 
-pub specimens-hold : SpecimensHold
+pub specimensHold : SpecimensHold
 unfolding anyBelow allBelow countBelow greatestBelow leastFrom sumBelow maximumBelow tabulate tabulateFrom lexLess lcp suffixLess lce previous next previousMatch nextMatch previousAfter previousMatchAfter nextSettled nextAfter nextMatchAfter tablesAfter isPair pairReach reach hanging forestAfter parentheses byteOf treeAfter treeBytes isLyndon part longestLyndon lowest lowestFrom byteBit bitOf spareBitSet closedTooEarly leftOpen buildRefusal readRefusal wordRefusal scan scanFrom reuse settle recordPrevious recordNext climb advance advances stateOf rowStart row start afterRows lentAfter comparisons refusalOf answer lentAtExit wordPart
-specimens-hold = refl
+specimensHold = refl

@@ -9,8 +9,7 @@ use native.Mathlib.Nat.{add-zero}
 use native.Mathlib.Omega.{arith}
 use lib.ListN.{length, getD, replicate, replicate-append-replicate}
 use Rattle.suffix.specs.Search.{countBelow}
-use Rattle.suffix.specs.Tree.{treeAfter}
-use Rattle.suffix.specs.Claims.{closedBy, unclosed, rowsWrite}
+use Rattle.suffix.specs.Tree.{treeAfter, closedBy, unclosed, rowsWrite}
 use Rattle.suffix.proofs.Levels.{level, closed-by, level-is}
 use Rattle.suffix.proofs.Written.{rows-write}
 

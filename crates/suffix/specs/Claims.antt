@@ -11,8 +11,7 @@ use Rattle.suffix.specs.Order.{suffixLess, lce}
 use Rattle.suffix.specs.Nearest.{previous, next, previousMatch, nextMatch}
 use Rattle.suffix.specs.Rows.{previousAfter, nextAfter, previousMatchAfter, nextMatchAfter, tablesAfter, isPair}
 use Rattle.suffix.specs.Lyndon.{longestLyndon}
-use Rattle.suffix.specs.Tree.{treeAfter}
-unfoldable pub use Rattle.suffix.specs.Tree.{closedBy, unclosed, rowsWrite}
+use Rattle.suffix.specs.Tree.{treeAfter, rowsWrite}
 
 -- ---- the order of suffixes, the empty one at n among them
 

@@ -1,0 +1,27 @@
+-- From what a called function answers to what is replied.
+use mathlib.Core.Path.{_≡_, sym, ap, _∙_}
+use mathlib.Core.List.{List}
+use Prim.Native.Nat.{ℕ}
+use Rattle.build.specs.declared.Built.{Built}
+use Rattle.build.specs.Built as build
+use Rattle.brackets.specs.declared.Verdict.{Verdict}
+use Rattle.brackets.specs.Answers as brackets
+use Rattle.lyndon.specs.declared.BuildReply.{BuildReply}
+use Rattle.lyndon.specs.declared.Reply.{Reply}
+use Rattle.lyndon.specs.Replies.{buildReply, BuildReplied, ReadReplied, reply}
+
+-- a build that answers with b, and a reply with the figures of b
+pub built :
+    {letters : List ℕ} {R : ℕ} {before after : build.Lent} {a b : Built} {given : BuildReply} → build.BuiltExactly letters R before after a → a ≡ b
+    → given ≡ buildReply (build.figuresOf b) → BuildReplied letters R before after given
+built e q z = record { replies = z ∙ ap (λ k. buildReply (build.figuresOf k)) (sym q) ∙ ap buildReply (e .answers); leaves = e .leaves }
+
+-- a reading with the verdict b, and its number
+pub read :
+    {n : ℕ} {tree : List ℕ} {before after : brackets.Lent} {a b : Verdict} {number : ℕ} → brackets.ReadBack n tree before after a → a ≡ b
+    → number ≡ brackets.verdictNumber b → ReadReplied n tree before after number
+read e q z = record { replies = z ∙ ap brackets.verdictNumber (sym q) ∙ e .answers; leaves = e .leaves }
+
+-- a question
+pub answered : {given : Reply} {a b : brackets.Figures} → given ≡ reply a → a ≡ b → given ≡ reply b
+answered z e = z ∙ ap reply e

@@ -1,0 +1,38 @@
+-- The replies of the exported functions: the figures of the answers' definitions, field by field.
+use mathlib.Core.Path.{_≡_}
+use mathlib.Core.List.{List}
+use Prim.Native.Nat.{ℕ}
+use lib.ListN.{length}
+use Rattle.refusal.specs.Conditions.{wordRefusal}
+use Rattle.build.specs.Built as build
+use Rattle.brackets.specs.Answers as brackets
+use Rattle.word.specs.Word.{wordPart, wordStart}
+use Rattle.lyndon.specs.declared.BuildReply.{BuildReply}
+use Rattle.lyndon.specs.declared.Reply.{Reply}
+use Rattle.lyndon.specs.declared.PartReply.{PartReply}
+
+-- "A refusal carries its number and no other figure": the others are 0
+abbrev pub buildReply : build.Figures → BuildReply
+buildReply (build.finished rows comparisons reach) = record { refusal = 0; finished = 1; rows = rows; comparisons = comparisons; reach = reach }
+buildReply (build.halted rows comparisons reach) = record { refusal = 0; finished = 0; rows = rows; comparisons = comparisons; reach = reach }
+buildReply (build.refused number) = record { refusal = number; finished = 0; rows = 0; comparisons = 0; reach = 0 }
+
+-- a build; `BuiltExactly` says how these figures are bounded
+pub record BuildReplied (letters : List ℕ) (R : ℕ) (before after : build.Lent) (given : BuildReply) : Type 0 where
+  pub replies : given ≡ buildReply (build.answer letters R before)
+  pub leaves : after ≡ build.lentAtExit letters R before
+
+-- reading a tree
+pub record ReadReplied (n : ℕ) (tree : List ℕ) (before after : brackets.Lent) (number : ℕ) : Type 0 where
+  pub replies : number ≡ brackets.refusalOf n tree before
+  pub leaves : after ≡ brackets.lentAtExit n tree before
+
+-- a question put to a tree
+unfoldable pub reply : brackets.Figures → Reply
+reply (brackets.value v) = record { refusal = 0; value = v }
+reply (brackets.refused number) = record { refusal = number; value = 0 }
+
+-- the longest Lyndon word: where it starts in the letters, and its length
+abbrev pub wordReply : List ℕ → ℕ → PartReply
+wordReply letters position =
+    record { refusal = wordRefusal (length letters) position; start = wordStart letters position; length = length (wordPart letters position) }

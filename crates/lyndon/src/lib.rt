@@ -1,0 +1,151 @@
+// The exported functions: each passes its arguments on to the crate that does the work.
+ghost use mathlib.Core.Path.{_≡_};
+ghost use Rattle.build.specs.Built.{lent};
+ghost use Rattle.brackets.specs.Answers.{figuresOf, previousAnswer, nextAnswer, placeAnswer};
+ghost use Rattle.lyndon.specs.Replies.{BuildReplied, ReadReplied, reply, wordReply};
+use brackets::Answer;
+use brackets::Verdict;
+use build::Built;
+
+#[repr(C)]
+pub struct BuildReply {
+    pub refusal: u32,
+    pub finished: u32,
+    pub rows: usize,
+    pub comparisons: usize,
+    pub reach: usize,
+}
+
+#[repr(C)]
+pub struct Reply {
+    pub refusal: u32,
+    pub value: usize,
+}
+
+#[repr(C)]
+pub struct PartReply {
+    pub refusal: u32,
+    pub start: usize,
+    pub length: usize,
+}
+
+#[no_mangle]
+pub extern "C" fn lyndon_build(
+    letters: &[u8],
+    rows: usize,
+    previous: &mut [u32],
+    next: &mut [u32],
+    previous_match: &mut [u32],
+    next_match: &mut [u32],
+    tree: &mut [u8],
+) -> BuildReply
+    ensures { λ r.
+        ⌜ BuildReplied (now (letters .entry)) rows
+        (lent (now (previous .entry)) (now (next .entry)) (now («previous_match» .entry)) (now («next_match» .entry)) (now (tree .entry)))
+        (lent (now (previous .exit)) (now (next .exit)) (now («previous_match» .exit)) (now («next_match» .exit)) (now (tree .exit)))
+        r ⌝ }
+{
+    let built = build::build(
+        letters,
+        rows,
+        previous,
+        next,
+        previous_match,
+        next_match,
+        tree,
+    );
+    match built {
+        Built::Finished(k) => BuildReply {
+            refusal: 0,
+            finished: 1,
+            rows: k.rows,
+            comparisons: k.comparisons,
+            reach: k.reach,
+        },
+        Built::Halted(k) => BuildReply {
+            refusal: 0,
+            finished: 0,
+            rows: k.rows,
+            comparisons: k.comparisons,
+            reach: k.reach,
+        },
+        Built::Refused(k) => BuildReply {
+            refusal: refusal::number(k),
+            finished: 0,
+            rows: 0,
+            comparisons: 0,
+            reach: 0,
+        },
+    }
+}
+
+#[no_mangle]
+pub extern "C" fn lyndon_read(n: usize, tree: &[u8], previous: &mut [u32], next: &mut [u32]) -> u32
+    ensures { λ r.
+        ⌜ ReadReplied n (now (tree .entry)) (record { previous = now (previous .entry); next = now (next .entry) })
+        (record { previous = now (previous .exit); next = now (next .exit) })
+        r ⌝ }
+{
+    let verdict = brackets::read(n, tree, previous, next);
+    match verdict {
+        Verdict::Accepted => 0,
+        Verdict::Refused(k) => refusal::number(k),
+    }
+}
+
+fn reply_of(answer: Answer) -> Reply
+    ensures { λ r. ⌜ r ≡ reply (figuresOf answer) ⌝ }
+{
+    match answer {
+        Answer::Value(v) => Reply {
+            refusal: 0,
+            value: v,
+        },
+        Answer::NoValue(k) => Reply {
+            refusal: refusal::number(k),
+            value: 0,
+        },
+    }
+}
+
+#[no_mangle]
+pub extern "C" fn lyndon_previous(n: usize, tree: &[u8], position: usize) -> Reply
+    ensures { λ r. ⌜ r ≡ reply (previousAnswer n (now (tree .entry)) position) ⌝ }
+{
+    reply_of(brackets::previous_of(n, tree, position))
+}
+
+#[no_mangle]
+pub extern "C" fn lyndon_next(n: usize, tree: &[u8], position: usize) -> Reply
+    ensures { λ r. ⌜ r ≡ reply (nextAnswer n (now (tree .entry)) position) ⌝ }
+{
+    reply_of(brackets::next_of(n, tree, position))
+}
+
+#[no_mangle]
+pub extern "C" fn lyndon_place(n: usize, tree: &[u8], position: usize) -> Reply
+    ensures { λ r. ⌜ r ≡ reply (placeAnswer n (now (tree .entry)) position) ⌝ }
+{
+    reply_of(brackets::place_of(n, tree, position))
+}
+
+#[no_mangle]
+pub extern "C" fn lyndon_word(letters: &[u8], position: usize) -> PartReply
+    ensures { λ r. ⌜ r ≡ wordReply (now (letters .entry)) position ⌝ }
+{
+    let mut refused = 0;
+    let part = word::word(letters, position, &mut refused);
+    let length = part.len();
+    if refused != 0 {
+        return PartReply {
+            refusal: refused,
+            start: 0,
+            length: 0,
+        };
+    }
+    PartReply {
+        refusal: 0,
+        start: position,
+        length,
+    }
+}

@@ -1,0 +1,27 @@
+-- `tables::put_field` meets its contract.
+use native.Mathlib.Omega.{arith}
+use borrow.Author.Needs.{needs}
+use Rattle.tables.specs.Text.{field}
+use Rattle.tables.proofs.Writes.{wrote-then, field-size}
+use Rattle.tables.proofs.put_field.Statement.{statement}
+use Rattle.tables.proofs.put_field.Tie as tie
+
+put-decimal-requires : tie.Need-put-decimal-requires
+put-decimal-requires c κs =
+    let a = c .before .before .args in
+    omega (arith, field-size (a .n) (a .b))
+
+put-byte-requires : tie.Need-put-byte-requires
+put-byte-requires c κs =
+    let a = c .before .before .before .before .before .before .args in
+    omega (arith, field-size (a .n) (a .b), c .before .before .before .put-decimal .ensures .size)
+
+same-length : tie.Need-same-length
+same-length c = search needs
+
+returns : tie.Need-returns
+unfolding field
+returns c = wrote-then (c .before .before .before .before .before .before .put-decimal .ensures) (c .before .before .put-byte .ensures)
+
+pub put-field-spec : {M : Type 1} → statement M
+put-field-spec = tie.close (tie.spec put-decimal-requires put-byte-requires same-length returns)

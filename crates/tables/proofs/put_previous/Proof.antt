@@ -1,0 +1,49 @@
+-- `tables::put_previous` meets its contract.
+use mathlib.Core.Path.{ap}
+use native.Mathlib.Omega.{arith}
+use lib.ListN.{length}
+use borrow.Author.Needs.{needs}
+use Rattle.tables.proofs.Writes.{dash, no-dash}
+use Rattle.tables.proofs.put_previous.Statement.{statement}
+use Rattle.tables.proofs.put_previous.Tie as tie
+
+slice-aggregate-put : tie.Need-slice-aggregate-put
+slice-aggregate-put c = search needs
+
+put-requires : tie.Need-put-requires
+put-requires c κs =
+    let a = c .before .before .before .before .args in
+    omega (arith, ap length (dash (a .n) (a .p) (c .before .before .if1 .taken)))
+
+same-length : tie.Need-same-length
+same-length c = search needs
+
+returns : tie.Need-returns
+returns c =
+    let a = c .before .before .before .before .before .before .before .args in
+    rw (dash (a .n) (a .p) (c .before .before .before .before .before .if1 .taken)) (c .before .before .put .ensures)
+
+put-field-requires : tie.Need-put-field-requires
+put-field-requires c κs =
+    let a = c .before .before .before .args in
+    omega (arith, ap length (no-dash (a .n) (a .p) (c .before .if1 .left)))
+
+same-length-2 : tie.Need-same-length-2
+same-length-2 c = search needs
+
+returns-2 : tie.Need-returns-2
+returns-2 c =
+    let a = c .before .before .before .before .before .before .args in
+    rw (no-dash (a .n) (a .p) (c .before .before .before .before .if1 .left)) (c .before .before .put-field .ensures)
+
+pub put-previous-spec : {M : Type 1} → statement M
+put-previous-spec =
+    tie.close
+    (tie.spec
+    slice-aggregate-put
+    put-requires
+    same-length
+    returns
+    put-field-requires
+    same-length-2
+    returns-2)

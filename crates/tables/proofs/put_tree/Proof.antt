@@ -1,0 +1,35 @@
+-- `tables::put_tree` meets its contract.
+use mathlib.Core.Path.{ap}
+use native.Mathlib.Omega.{arith}
+use lib.ListN.{length}
+use borrow.Author.Needs.{needs}
+use Rattle.tables.proofs.Writes.{tree-none, tree-some}
+use Rattle.tables.proofs.put_tree.Statement.{statement}
+use Rattle.tables.proofs.put_tree.Tie as tie
+
+put-byte-requires : tie.Need-put-byte-requires
+put-byte-requires c κs =
+    omega (arith, ap length (tree-none (c .before .before .before .before .args .tree .now) (omega arith)))
+
+same-length : tie.Need-same-length
+same-length c = search needs
+
+returns : tie.Need-returns
+returns c =
+    rw (tree-none (c .before .before .before .before .before .before .before .args .tree .now) (omega arith)) (c .before .before .put-byte .ensures)
+
+put-hexes-requires : tie.Need-put-hexes-requires
+put-hexes-requires c κs =
+    omega (arith, ap length (tree-some (c .before .before .before .before .args .tree .now) (omega arith)))
+
+same-length-2 : tie.Need-same-length-2
+same-length-2 c = search needs
+
+returns-2 : tie.Need-returns-2
+returns-2 c =
+    rw (tree-some (c .before .before .before .before .before .before .before .args .tree .now) (omega arith)) (c .before .before .put-hexes .ensures)
+
+pub put-tree-spec : {M : Type 1} → statement M
+put-tree-spec =
+    tie.close
+    (tie.spec put-byte-requires same-length returns put-hexes-requires same-length-2 returns-2)

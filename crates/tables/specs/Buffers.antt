@@ -1,0 +1,41 @@
+-- What the contracts of the private functions are written with: a text in a buffer, and the tables and the tree of a string in lent memory.
+use mathlib.Core.Path.{_≡_}
+use mathlib.Core.List.{List, _++_}
+use Prim.Native.Nat.{ℕ, _+_, _≤_, _<_}
+use lib.ListN.{length, getD, take}
+use Rattle.suffix.specs.Nearest.{previous, next}
+use Rattle.suffix.specs.Tree.{treeBytes, treeLength}
+use Rattle.build.specs.Built.{comparisons, Figures, finished, halted, refused}
+
+-- the text t was put into a at x, which made b, and it ends at z
+pub record Wrote (a b t : List ℕ) (x z : ℕ) : Type 0 where
+  pub size : z ≡ x + length t
+  pub text : take z b ≡ take x a ++ t
+
+-- memory for n positions: four tables and a tree, by their lengths
+pub record Room (n p q pm qm t : ℕ) : Type 0 where
+  pub few : n ≤ 2048
+  pub previous : p ≡ n
+  pub next : q ≡ n
+  pub previousMatch : pm ≡ n
+  pub nextMatch : qm ≡ n
+  pub tree : t ≡ treeLength n
+
+-- p and q hold previous and next of the string y
+pub record Nearests (y p q : List ℕ) : Type 0 where
+  pub previousLength : length p ≡ length y
+  pub nextLength : length q ≡ length y
+  pub previousAt : (k : ℕ) → k < length y → getD p k 0 ≡ previous y k
+  pub nextAt : (k : ℕ) → k < length y → getD q k 0 ≡ next y k
+
+-- so they do, t is the tree of y, and c the count of the reuse steps
+pub record WholeBuild (y p q t : List ℕ) (c : ℕ) : Type 0 where
+  pub nearests : Nearests y p q
+  pub tree : t ≡ treeBytes y (length y)
+  pub count : c ≡ comparisons y (length y)
+
+-- the count of an answer
+abbrev pub countOf : Figures → ℕ
+countOf (finished rows comparisons reach) = comparisons
+countOf (halted rows comparisons reach) = comparisons
+countOf (refused number) = 0

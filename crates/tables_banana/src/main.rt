@@ -1,0 +1,4 @@
+// The tables program, for the six bytes banana.
+fn main() {
+    tables::run();
+}

@@ -1,0 +1,4 @@
+// The tables program, for no letters.
+fn main() {
+    tables::run();
+}

@@ -1,0 +1,4 @@
+// The tables program, for one letter: byte 10.
+fn main() {
+    tables::run();
+}

@@ -1,0 +1,134 @@
+//! The definitions of document 01, computed as they are written.
+
+use crate::{steps, Figures, Structure, Tables};
+
+/// Whether the suffix at `i` is smaller than the suffix at `j`: a proper prefix is smaller, otherwise
+/// the first differing letter decides. This is the order of slices.
+pub fn suffix_less(letters: &[u8], i: usize, j: usize) -> bool {
+    letters[i..] < letters[j..]
+}
+
+/// match(i, j): the number of leading letters that the suffixes at `i` and `j` share.
+pub fn suffix_match(letters: &[u8], i: usize, j: usize) -> usize {
+    letters[i..]
+        .iter()
+        .zip(&letters[j..])
+        .take_while(|(a, b)| a == b)
+        .count()
+}
+
+/// The greatest j < i whose suffix is smaller than that at `i`.
+pub fn previous(letters: &[u8], i: usize) -> Option<usize> {
+    (0..i).rev().find(|&j| suffix_less(letters, j, i))
+}
+
+/// The least j > i whose suffix is smaller than that at `i`.
+pub fn next(letters: &[u8], i: usize) -> Option<usize> {
+    (i + 1..letters.len()).find(|&j| suffix_less(letters, j, i))
+}
+
+/// The four tables after `rows` rows.
+pub fn tables(letters: &[u8], rows: usize) -> Tables {
+    let n = letters.len();
+    let previous_after = |i| if i < rows { previous(letters, i) } else { None };
+    let next_after = |i| {
+        if i < rows {
+            next(letters, i).filter(|&j| j < rows)
+        } else {
+            None
+        }
+    };
+    let table = |entry: &dyn Fn(usize) -> usize| (0..n).map(|i| entry(i) as u32).collect();
+    Tables {
+        previous: table(&|i| previous_after(i).unwrap_or(n)),
+        next: table(&|i| next_after(i).unwrap_or(n)),
+        previous_match: table(&|i| previous_after(i).map_or(0, |j| suffix_match(letters, j, i))),
+        next_match: table(&|i| next_after(i).map_or(0, |j| suffix_match(letters, i, j))),
+    }
+}
+
+/// The reach after `rows` rows, over all pairs.
+pub fn reach(letters: &[u8], rows: usize) -> usize {
+    let previous: Vec<_> = (0..rows).map(|i| previous(letters, i)).collect();
+    let next: Vec<_> = (0..rows).map(|i| next(letters, i)).collect();
+    let pairs = (0..rows).flat_map(|r| (0..r).map(move |l| (l, r)));
+    let near = pairs.filter(|&(l, r)| next[l] == Some(r) || previous[r] == Some(l));
+    near.map(|(l, r)| r + suffix_match(letters, l, r))
+        .fold(rows.min(1), usize::max)
+}
+
+/// The tree after `rows` rows: position i hangs under previous\[i\], or is a root.
+pub fn tree(letters: &[u8], rows: usize) -> Vec<u8> {
+    let parents: Vec<_> = (0..rows).map(|i| previous(letters, i)).collect();
+    let mut brackets = Vec::new();
+    append_children(None, &parents, &mut brackets);
+    pack(&brackets, letters.len())
+}
+
+/// Appends the brackets of all that hangs under `parent`, from left to right.
+fn append_children(parent: Option<usize>, parents: &[Option<usize>], brackets: &mut Vec<bool>) {
+    for child in 0..parents.len() {
+        if parents[child] == parent {
+            brackets.push(true);
+            append_children(Some(child), parents, brackets);
+            brackets.push(false);
+        }
+    }
+}
+
+/// The brackets as the first bits of the ceil(n/4) bytes of a tree.
+pub fn pack(brackets: &[bool], n: usize) -> Vec<u8> {
+    let mut bytes = vec![0; n.div_ceil(4)];
+    for (k, &open) in brackets.iter().enumerate() {
+        if open {
+            bytes[k / 8] += 2u8.pow((k % 8) as u32);
+        }
+    }
+    bytes
+}
+
+/// The whole answer of a build of `rows` rows, `rows` at most n.
+pub fn build(letters: &[u8], rows: usize) -> Structure {
+    Structure {
+        figures: Figures {
+            finished: rows == letters.len(),
+            rows,
+            comparisons: steps::run(letters, rows).comparisons,
+            reach: reach(letters, rows),
+        },
+        tables: tables(letters, rows),
+        tree: tree(letters, rows),
+    }
+}
+
+/// Whether `word` is non-empty and smaller than each of its proper non-empty suffixes.
+pub fn is_lyndon(word: &[u8]) -> bool {
+    !word.is_empty() && (1..word.len()).all(|i| *word < word[i..])
+}
+
+/// The longest Lyndon word that starts at `position`, `position` below n.
+pub fn longest_word(letters: &[u8], position: usize) -> &[u8] {
+    let suffix = &letters[position..];
+    let longest = (1..=suffix.len())
+        .rev()
+        .find(|&length| is_lyndon(&suffix[..length]));
+    &suffix[..longest.expect("a single letter is a Lyndon word")]
+}
+
+#[cfg(test)]
+mod tests {
+    use super::*;
+    use crate::samples::strings_over;
+
+    #[test]
+    fn the_length_of_the_longest_lyndon_word_is_next_minus_position() {
+        for n in 1..=7 {
+            for letters in strings_over(b"abc", n) {
+                for i in 0..n {
+                    let end = next(&letters, i).unwrap_or(n);
+                    assert_eq!(longest_word(&letters, i), &letters[i..end]);
+                }
+            }
+        }
+    }
+}

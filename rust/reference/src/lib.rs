@@ -1,0 +1,59 @@
+//! A plain Rust reference for the Lyndon structure of a string. It is written from the definitions of
+//! document 01 and shares no code with the library that it is compared with.
+//!
+//! - [`definitions`]: suffixes, tables, tree, reach and Lyndon words, each as defined;
+//! - [`steps`]: the reuse steps 1 to 4, which define the count of comparisons;
+//! - [`brackets`]: a tree judged, read and questioned bit by bit;
+//! - [`refusals`]: which refusals apply to an operation's input;
+//! - [`fast`] and [`fast_brackets`]: the same answers, usable at 1,000,000 letters;
+//! - [`samples`]: random numbers, strings and trees for tests.
+
+#![warn(missing_docs)]
+
+pub mod brackets;
+pub mod definitions;
+pub mod fast;
+pub mod fast_brackets;
+pub mod refusals;
+pub mod samples;
+pub mod steps;
+
+/// The greatest number of letters that is taken.
+pub const MAX_LETTERS: usize = 1_000_000;
+
+/// The four tables, with n for none.
+#[derive(Debug, Clone, PartialEq, Eq)]
+pub struct Tables {
+    /// The nearest smaller suffix before each position.
+    pub previous: Vec<u32>,
+    /// The nearest smaller suffix after each position.
+    pub next: Vec<u32>,
+    /// The letters shared with the previous smaller suffix.
+    pub previous_match: Vec<u32>,
+    /// The letters shared with the next smaller suffix.
+    pub next_match: Vec<u32>,
+}
+
+/// What a build says of itself.
+#[derive(Debug, Clone, Copy, PartialEq, Eq)]
+pub struct Figures {
+    /// Whether all rows are done.
+    pub finished: bool,
+    /// The rows done.
+    pub rows: usize,
+    /// The comparisons that the reuse steps make.
+    pub comparisons: usize,
+    /// The reach after these rows.
+    pub reach: usize,
+}
+
+/// A build's whole answer.
+#[derive(Debug, Clone, PartialEq, Eq)]
+pub struct Structure {
+    /// What the build says of itself.
+    pub figures: Figures,
+    /// The tables after the rows done.
+    pub tables: Tables,
+    /// The bytes of the tree after the rows done.
+    pub tree: Vec<u8>,
+}

@@ -1,0 +1,69 @@
+//! The refusals that apply to an operation's input, by their numbers in ascending order. The first of
+//! them is the one that the operation returns.
+
+use crate::{brackets, MAX_LETTERS};
+
+/// An operation's refusal, out of those that apply.
+pub fn first(applying: &[u32]) -> Result<(), u32> {
+    applying.first().map_or(Ok(()), |&number| Err(number))
+}
+
+/// The numbers whose condition holds.
+fn applying<const K: usize>(conditions: [(u32, bool); K]) -> Vec<u32> {
+    conditions
+        .into_iter()
+        .filter(|&(_, holds)| holds)
+        .map(|(number, _)| number)
+        .collect()
+}
+
+fn too_long(n: usize) -> bool {
+    n > MAX_LETTERS
+}
+
+fn table_length(n: usize, lengths: &[usize]) -> bool {
+    lengths.iter().any(|&length| length != n)
+}
+
+fn tree_length(n: usize, length: usize) -> bool {
+    length != n.div_ceil(4)
+}
+
+/// Build: 1 to 4.
+pub fn of_build(n: usize, tables: [usize; 4], tree: usize, rows: usize) -> Vec<u32> {
+    applying([
+        (1, too_long(n)),
+        (2, table_length(n, &tables)),
+        (3, tree_length(n, tree)),
+        (4, rows > n),
+    ])
+}
+
+/// Reading: 1, 2, 3, 6, 7, 8.
+pub fn of_reading(n: usize, tree: &[u8], tables: [usize; 2]) -> Vec<u32> {
+    applying([
+        (1, too_long(n)),
+        (2, table_length(n, &tables)),
+        (3, tree_length(n, tree.len())),
+        (6, brackets::spare_bit_set(n, tree)),
+        (7, brackets::closed_too_early(n, tree)),
+        (8, brackets::left_open(n, tree)),
+    ])
+}
+
+/// Tree questions: 1, 3, 5 to 8.
+pub fn of_question(n: usize, tree: &[u8], position: usize) -> Vec<u32> {
+    applying([
+        (1, too_long(n)),
+        (3, tree_length(n, tree.len())),
+        (5, position >= n),
+        (6, brackets::spare_bit_set(n, tree)),
+        (7, brackets::closed_too_early(n, tree)),
+        (8, brackets::left_open(n, tree)),
+    ])
+}
+
+/// Longest word: 1, 5.
+pub fn of_word(n: usize, position: usize) -> Vec<u32> {
+    applying([(1, too_long(n)), (5, position >= n)])
+}

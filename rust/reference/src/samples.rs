@@ -1,0 +1,140 @@
+//! Random numbers, strings and trees, the same in every run.
+
+/// Marsaglia's xorshift generator with 64 bits of state.
+#[derive(Debug, Clone)]
+pub struct Random(u64);
+
+impl Random {
+    /// A generator with a seed other than 0.
+    pub fn new(seed: u64) -> Random {
+        assert_ne!(seed, 0, "the state 0 never changes");
+        Random(seed)
+    }
+
+    /// The next number.
+    pub fn number(&mut self) -> u64 {
+        self.0 ^= self.0 << 13;
+        self.0 ^= self.0 >> 7;
+        self.0 ^= self.0 << 17;
+        self.0
+    }
+
+    /// A number below `bound`.
+    pub fn below(&mut self, bound: usize) -> usize {
+        // The high bits of the state are the better ones.
+        ((u128::from(self.number()) * bound as u128) >> 64) as usize
+    }
+}
+
+/// Every string of `n` letters of the alphabet.
+pub fn strings_over(alphabet: &[u8], n: usize) -> impl Iterator<Item = Vec<u8>> + '_ {
+    let base = alphabet.len();
+    (0..base.pow(n as u32)).map(move |index| {
+        let digits = std::iter::successors(Some(index), move |&rest| Some(rest / base));
+        digits.take(n).map(|rest| alphabet[rest % base]).collect()
+    })
+}
+
+/// `n` random letters out of the first `size` byte values.
+pub fn random_string(random: &mut Random, n: usize, size: usize) -> Vec<u8> {
+    (0..n).map(|_| random.below(size) as u8).collect()
+}
+
+/// The first `n` letters of a word repeated without end.
+pub fn repeated(word: &[u8], n: usize) -> Vec<u8> {
+    word.iter().copied().cycle().take(n).collect()
+}
+
+/// The first `n` letters of the Fibonacci word abaababa...
+pub fn fibonacci(n: usize) -> Vec<u8> {
+    let (mut shorter, mut longer) = (b"a".to_vec(), b"ab".to_vec());
+    while longer.len() < n {
+        let sum = [longer.as_slice(), &shorter].concat();
+        shorter = std::mem::replace(&mut longer, sum);
+    }
+    longer.truncate(n);
+    longer
+}
+
+/// The first `n` letters of the Thue-Morse word abbabaab...
+pub fn thue_morse(n: usize) -> Vec<u8> {
+    (0..n).map(|i| b'a' + (i.count_ones() % 2) as u8).collect()
+}
+
+/// Named strings of `n` letters of different kinds.
+pub fn kinds(random: &mut Random, n: usize) -> Vec<(&'static str, Vec<u8>)> {
+    let word = random_string(random, 1000, 4);
+    let mut damaged = repeated(b"abaab", n);
+    for _ in 0..n / 1000 {
+        damaged[random.below(n)] = b'a' + random.below(3) as u8;
+    }
+    vec![
+        ("random, 2 letters", random_string(random, n, 2)),
+        ("random, 4 letters", random_string(random, n, 4)),
+        ("random, 256 letters", random_string(random, n, 256)),
+        ("one letter", repeated(b"a", n)),
+        ("a word of 7 letters repeated", repeated(b"gattaca", n)),
+        ("a word of 1,000 letters repeated", repeated(&word, n)),
+        ("a word repeated, some letters changed", damaged),
+        ("Fibonacci", fibonacci(n)),
+        ("Thue-Morse", thue_morse(n)),
+    ]
+}
+
+/// A random balanced tree of `n` positions. Where both brackets are possible, it opens with a
+/// probability of `openings` in 10.
+pub fn random_tree(random: &mut Random, n: usize, openings: usize) -> Vec<u8> {
+    let mut tree = vec![0; n.div_ceil(4)];
+    let (mut opened, mut closed) = (0, 0);
+    for k in 0..2 * n {
+        let open = opened < n && (opened == closed || random.below(10) < openings);
+        if open {
+            tree[k / 8] |= 1 << (k % 8);
+            opened += 1;
+        } else {
+            closed += 1;
+        }
+    }
+    tree
+}
+
+/// The tree of `n` positions, `n` at least 1, in which 0 is around all others and each of these is
+/// closed at once.
+pub fn one_root_over_leaves(n: usize) -> Vec<u8> {
+    let mut tree = vec![0b1010_1010; n.div_ceil(4)];
+    tree[0] |= 1;
+    let last = 2 * n - 1;
+    tree[last / 8] &= (1 << (last % 8)) - 1;
+    tree
+}
+
+#[cfg(test)]
+mod tests {
+    use super::*;
+    use crate::refusals;
+
+    #[test]
+    fn strings_are_as_named() {
+        let two: Vec<_> = strings_over(b"ab", 2).collect();
+        assert_eq!(two, [b"aa", b"ba", b"ab", b"bb"]);
+        assert_eq!(strings_over(b"abc", 0).count(), 1);
+        assert_eq!(repeated(b"abc", 7), b"abcabca");
+        assert_eq!(fibonacci(13), b"abaababaabaab");
+        assert_eq!(fibonacci(1), b"a");
+        assert_eq!(thue_morse(8), b"abbabaab");
+        assert_eq!(one_root_over_leaves(1), [0b01]);
+        assert_eq!(one_root_over_leaves(4), [0b0010_1011]);
+        assert_eq!(one_root_over_leaves(5), [0b1010_1011, 0b00]);
+    }
+
+    #[test]
+    fn random_trees_are_balanced() {
+        let mut random = Random::new(1);
+        for n in 0..50 {
+            for openings in 0..=10 {
+                let tree = random_tree(&mut random, n, openings);
+                assert_eq!(refusals::of_reading(n, &tree, [n, n]), []);
+            }
+        }
+    }
+}

@@ -1,0 +1,108 @@
+//! The functions of `liblyndon.a` as they are exported. A slice passes as a pointer and a length.
+//! `include/lyndon.h` declares the same.
+
+/// The answer of [`lyndon_build`].
+#[repr(C)]
+#[derive(Debug, Clone, Copy, PartialEq, Eq)]
+pub struct BuildReply {
+    /// The refusal's number, 0 where not refused.
+    pub refusal: u32,
+    /// 1 where all rows are done, else 0.
+    pub finished: u32,
+    /// The rows done.
+    pub rows: usize,
+    /// The comparisons that the reuse steps make.
+    pub comparisons: usize,
+    /// The reach after these rows.
+    pub reach: usize,
+}
+
+/// The answer to a question put to a tree.
+#[repr(C)]
+#[derive(Debug, Clone, Copy, PartialEq, Eq)]
+pub struct Reply {
+    /// The refusal's number, 0 where not refused.
+    pub refusal: u32,
+    /// The answer, 0 where refused.
+    pub value: usize,
+}
+
+/// A part of the caller's string.
+#[repr(C)]
+#[derive(Debug, Clone, Copy, PartialEq, Eq)]
+pub struct PartReply {
+    /// The refusal's number, 0 where not refused.
+    pub refusal: u32,
+    /// Where the part starts, 0 where refused.
+    pub start: usize,
+    /// The part's length, 0 where refused.
+    pub length: usize,
+}
+
+extern "C" {
+    /// Builds the first `rows` rows.
+    ///
+    /// # Safety
+    ///
+    /// Each pointer is not null and points to as many entries as the length after it says. The lists
+    /// that are written do not overlap any other list of the call.
+    pub fn lyndon_build(
+        letters: *const u8,
+        letters_length: usize,
+        rows: usize,
+        previous: *mut u32,
+        previous_length: usize,
+        next: *mut u32,
+        next_length: usize,
+        previous_match: *mut u32,
+        previous_match_length: usize,
+        next_match: *mut u32,
+        next_match_length: usize,
+        tree: *mut u8,
+        tree_length: usize,
+    ) -> BuildReply;
+
+    /// Reads a tree back into two tables. Returns the refusal's number, 0 where read.
+    ///
+    /// # Safety
+    ///
+    /// As for [`lyndon_build`].
+    pub fn lyndon_read(
+        n: usize,
+        tree: *const u8,
+        tree_length: usize,
+        previous: *mut u32,
+        previous_length: usize,
+        next: *mut u32,
+        next_length: usize,
+    ) -> u32;
+
+    /// The previous entry of a position.
+    ///
+    /// # Safety
+    ///
+    /// `tree` is not null and points to `tree_length` bytes.
+    pub fn lyndon_previous(n: usize, tree: *const u8, tree_length: usize, position: usize)
+        -> Reply;
+
+    /// The next entry of a position.
+    ///
+    /// # Safety
+    ///
+    /// As for [`lyndon_previous`].
+    pub fn lyndon_next(n: usize, tree: *const u8, tree_length: usize, position: usize) -> Reply;
+
+    /// The bit place of a position's opening.
+    ///
+    /// # Safety
+    ///
+    /// As for [`lyndon_previous`].
+    pub fn lyndon_place(n: usize, tree: *const u8, tree_length: usize, position: usize) -> Reply;
+
+    /// The longest Lyndon word at a position.
+    ///
+    /// # Safety
+    ///
+    /// `letters` is not null and points to `letters_length` bytes.
+    pub fn lyndon_word(letters: *const u8, letters_length: usize, position: usize) -> PartReply;
+}

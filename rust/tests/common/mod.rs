@@ -1,0 +1,306 @@
+//! Lent memory with guards around it, and the checks that several tests make.
+
+// Each test file uses a part of this module.
+#![allow(dead_code)]
+
+use std::fmt::Debug;
+
+use lyndon::{raw, Built, Refusal};
+use reference::{fast_brackets, Structure};
+
+/// A question put to a tree: n, the tree's bytes and a position. A refusal is its number.
+pub type Question = fn(usize, &[u8], usize) -> Result<usize, u32>;
+
+/// The three questions as the library answers them: place, previous, next.
+pub const LIBRARY: [Question; 3] = [
+    |n, tree, position| lyndon::place(n, tree, position).map_err(Refusal::number),
+    |n, tree, position| lyndon::previous(n, tree, position).map_err(Refusal::number),
+    |n, tree, position| lyndon::next(n, tree, position).map_err(Refusal::number),
+];
+
+/// The three questions as the fast reference answers them.
+pub const FAST: [Question; 3] = [
+    fast_brackets::place,
+    fast_brackets::previous,
+    fast_brackets::next,
+];
+
+/// The entries before and after a lent list that must stay as they are.
+const GUARD: usize = 5;
+
+/// What lent memory holds before a call. The two differ at every entry, so that a write of whatever
+/// value changes one of them.
+pub const FILLS: [Fill; 2] = [Fill(false), Fill(true)];
+
+/// One of the two patterns.
+#[derive(Debug, Clone, Copy)]
+pub struct Fill(bool);
+
+/// An entry of a lent list.
+pub trait Entry: Copy + PartialEq + Debug {
+    /// The entry with the low bits of `bits`.
+    fn from_bits(bits: u64) -> Self;
+}
+
+impl Entry for u32 {
+    fn from_bits(bits: u64) -> u32 {
+        bits as u32
+    }
+}
+
+impl Entry for u8 {
+    fn from_bits(bits: u64) -> u8 {
+        bits as u8
+    }
+}
+
+impl Fill {
+    fn entry<T: Entry>(self, index: usize) -> T {
+        let bits = (index as u64 + 1).wrapping_mul(0x9e37_79b9_7f4a_7c15) >> 29;
+        T::from_bits(if self.0 { !bits } else { bits })
+    }
+}
+
+/// A list to be lent, filled with a pattern, with guard entries on both sides.
+pub struct Guarded<T> {
+    entries: Vec<T>,
+    fill: Fill,
+}
+
+impl<T: Entry> Guarded<T> {
+    pub fn new(length: usize, fill: Fill) -> Guarded<T> {
+        Guarded {
+            entries: (0..length + 2 * GUARD).map(|i| fill.entry(i)).collect(),
+            fill,
+        }
+    }
+
+    /// The list without its guards, to be lent.
+    pub fn lent(&mut self) -> &mut [T] {
+        let end = self.entries.len() - GUARD;
+        &mut self.entries[GUARD..end]
+    }
+
+    /// The list after a call, which has left the guards as they were.
+    pub fn contents(&self) -> &[T] {
+        let end = self.entries.len() - GUARD;
+        let guards = (0..GUARD).chain(end..self.entries.len());
+        for i in guards {
+            assert_eq!(
+                self.entries[i],
+                self.fill.entry(i),
+                "a guard at {i} has changed"
+            );
+        }
+        &self.entries[GUARD..end]
+    }
+
+    /// Asserts that nothing has been written.
+    pub fn assert_untouched(&self) {
+        for (i, entry) in self.entries.iter().enumerate() {
+            assert_eq!(
+                *entry,
+                self.fill.entry(i),
+                "entry {i}, guards included, has changed"
+            );
+        }
+    }
+}
+
+/// The memory that a build is lent.
+pub struct Lent {
+    pub previous: Guarded<u32>,
+    pub next: Guarded<u32>,
+    pub previous_match: Guarded<u32>,
+    pub next_match: Guarded<u32>,
+    pub tree: Guarded<u8>,
+}
+
+impl Lent {
+    /// Tables and a tree of the given lengths.
+    pub fn new(tables: [usize; 4], tree: usize, fill: Fill) -> Lent {
+        let [previous, next, previous_match, next_match] = tables.map(|n| Guarded::new(n, fill));
+        Lent {
+            previous,
+            next,
+            previous_match,
+            next_match,
+            tree: Guarded::new(tree, fill),
+        }
+    }
+
+    /// Builds through the safe wrapper.
+    pub fn build(&mut self, letters: &[u8], rows: usize) -> Result<Built, Refusal> {
+        lyndon::build(
+            letters,
+            rows,
+            self.previous.lent(),
+            self.next.lent(),
+            self.previous_match.lent(),
+            self.next_match.lent(),
+            self.tree.lent(),
+        )
+    }
+
+    /// Builds through the exported function.
+    pub fn build_raw(&mut self, letters: &[u8], rows: usize) -> raw::BuildReply {
+        let [previous, next, previous_match, next_match] = [
+            self.previous.lent(),
+            self.next.lent(),
+            self.previous_match.lent(),
+            self.next_match.lent(),
+        ];
+        let tree = self.tree.lent();
+        // SAFETY: each pointer comes from a slice with its length, and the lists are apart.
+        unsafe {
+            raw::lyndon_build(
+                letters.as_ptr(),
+                letters.len(),
+                rows,
+                previous.as_mut_ptr(),
+                previous.len(),
+                next.as_mut_ptr(),
+                next.len(),
+                previous_match.as_mut_ptr(),
+                previous_match.len(),
+                next_match.as_mut_ptr(),
+                next_match.len(),
+                tree.as_mut_ptr(),
+                tree.len(),
+            )
+        }
+    }
+
+    /// Asserts that nothing has been written.
+    pub fn assert_untouched(&self) {
+        self.previous.assert_untouched();
+        self.next.assert_untouched();
+        self.previous_match.assert_untouched();
+        self.next_match.assert_untouched();
+        self.tree.assert_untouched();
+    }
+}
+
+/// Asserts that a build of `rows` rows gives the expected answer and leaves the expected memory.
+pub fn assert_build(letters: &[u8], rows: usize, expected: &Structure) {
+    let n = letters.len();
+    let mut lent = Lent::new([n; 4], lyndon::tree_length(n), FILLS[rows % 2]);
+    let built = lent
+        .build(letters, rows)
+        .expect("a build that no refusal applies to");
+    let figures = &expected.figures;
+    assert_eq!(
+        (built.finished, built.rows, built.comparisons, built.reach),
+        (
+            figures.finished,
+            figures.rows,
+            figures.comparisons,
+            figures.reach
+        ),
+        "finished, rows, comparisons, reach"
+    );
+    assert_list(
+        "previous",
+        lent.previous.contents(),
+        &expected.tables.previous,
+    );
+    assert_list("next", lent.next.contents(), &expected.tables.next);
+    assert_list(
+        "previous-match",
+        lent.previous_match.contents(),
+        &expected.tables.previous_match,
+    );
+    assert_list(
+        "next-match",
+        lent.next_match.contents(),
+        &expected.tables.next_match,
+    );
+    assert_list("tree", lent.tree.contents(), &expected.tree);
+    if rows > 0 {
+        let bound = 2 * (rows - 1) + (built.reach - 1);
+        assert!(
+            built.comparisons <= bound && built.reach <= n,
+            "the bound on comparisons"
+        );
+    }
+}
+
+/// Asserts that two lists are equal, naming the first place where they are not.
+pub fn assert_list<T: Entry>(name: &str, list: &[T], expected: &[T]) {
+    assert_eq!(list.len(), expected.len(), "the length of {name}");
+    if list != expected {
+        let i = (0..list.len())
+            .find(|&i| list[i] != expected[i])
+            .expect("a differing entry");
+        panic!("{name}[{i}] is {:?}, expected {:?}", list[i], expected[i]);
+    }
+}
+
+/// Asserts that a tree of `n` positions is read into the expected tables.
+pub fn assert_read(n: usize, tree: &[u8], previous: &[u32], next: &[u32]) {
+    let [mut previous_read, mut next_read] = FILLS.map(|fill| Guarded::new(n, fill));
+    let outcome = lyndon::read(n, tree, previous_read.lent(), next_read.lent());
+    assert_eq!(outcome, Ok(()));
+    assert_list("previous as read", previous_read.contents(), previous);
+    assert_list("next as read", next_read.contents(), next);
+}
+
+/// Asserts that reading into tables of the given lengths is refused and writes nothing.
+pub fn assert_read_refused(n: usize, tree: &[u8], tables: [usize; 2], number: u32) {
+    for fill in FILLS {
+        let [mut previous, mut next] = tables.map(|length| Guarded::new(length, fill));
+        let outcome = lyndon::read(n, tree, previous.lent(), next.lent());
+        assert_eq!(
+            outcome.map_err(Refusal::number),
+            Err(number),
+            "reading at n = {n}"
+        );
+        previous.assert_untouched();
+        next.assert_untouched();
+    }
+}
+
+/// Asserts what the tree of `rows` rows of an `n`-letter string gives: read at n the whole tables, or
+/// refusal 7 where halted; and its first bytes, read with `rows` for n, the entries below `rows`.
+pub fn assert_tree_of_build(n: usize, structure: &Structure) {
+    let (tables, rows) = (&structure.tables, structure.figures.rows);
+    if rows == n {
+        assert_read(n, &structure.tree, &tables.previous, &tables.next);
+        return;
+    }
+    assert_read_refused(n, &structure.tree, [n, n], 7);
+    let first_bytes = &structure.tree[..lyndon::tree_length(rows)];
+    let none_as_rows = |table: &[u32]| -> Vec<u32> {
+        table[..rows]
+            .iter()
+            .map(|&e| if e == n as u32 { rows as u32 } else { e })
+            .collect()
+    };
+    assert_read(
+        rows,
+        first_bytes,
+        &none_as_rows(&tables.previous),
+        &none_as_rows(&tables.next),
+    );
+}
+
+/// Asserts that the library answers the three questions as `expected` does.
+pub fn assert_questions(n: usize, tree: &[u8], position: usize, expected: [Question; 3]) {
+    for (k, name) in ["place", "previous", "next"].into_iter().enumerate() {
+        assert_eq!(
+            LIBRARY[k](n, tree, position),
+            expected[k](n, tree, position),
+            "{name} of {position} in a tree of {n} positions"
+        );
+    }
+}
+
+/// Asserts that the longest word at `position` is the expected part of `letters` itself.
+pub fn assert_word(letters: &[u8], position: usize, expected: &[u8]) {
+    let word = lyndon::longest_word(letters, position).expect("a position inside the string");
+    assert_eq!(
+        word.as_ptr_range(),
+        expected.as_ptr_range(),
+        "the longest word at {position}"
+    );
+}

@@ -1,0 +1,76 @@
+//! Long strings of different kinds, whole and halted, against the fast reference.
+
+mod common;
+
+use common::{assert_build, assert_questions, assert_tree_of_build, assert_word, FAST};
+use reference::fast;
+use reference::samples::{self, Random};
+
+/// Builds the string whole and with `halts` random numbers of rows, and asks at random positions.
+fn check_string(random: &mut Random, letters: &[u8], halts: usize) {
+    let n = letters.len();
+    let whole = fast::structure(letters, n);
+    assert_build(letters, n, &whole);
+    assert_tree_of_build(n, &whole);
+    for position in [0, n / 2, n - 1]
+        .into_iter()
+        .chain((0..5).map(|_| random.below(n)))
+    {
+        let word = fast::longest_word(letters, position);
+        assert_eq!(word.len(), whole.tables.next[position] as usize - position);
+        assert_word(letters, position, word);
+        assert_questions(n, &whole.tree, position, FAST);
+    }
+    for _ in 0..halts {
+        let rows = random.below(n);
+        let halted = fast::structure(letters, rows);
+        assert_build(letters, rows, &halted);
+        assert_tree_of_build(n, &halted);
+    }
+}
+
+fn check_kinds(seed: u64, lengths: &[usize], halts: usize) {
+    let mut random = Random::new(seed);
+    for &n in lengths {
+        for (_, letters) in samples::kinds(&mut random, n) {
+            check_string(&mut random, &letters, halts);
+        }
+    }
+}
+
+#[test]
+fn strings_of_about_10_000_letters() {
+    check_kinds(11, &[10_000, 10_001, 10_002, 10_003, 12_345], 10);
+}
+
+#[test]
+fn strings_of_about_100_000_letters() {
+    check_kinds(12, &[99_991, 100_000], 3);
+}
+
+#[test]
+fn strings_of_about_1_000_000_letters() {
+    check_kinds(13, &[999_999, 1_000_000], 1);
+}
+
+#[test]
+fn random_strings_of_random_lengths_and_alphabets() {
+    let mut random = Random::new(14);
+    for _ in 0..500 {
+        let n = 1 + random.below(2_000);
+        let size = 1 + random.below(256);
+        let letters = samples::random_string(&mut random, n, size);
+        check_string(&mut random, &letters, 3);
+    }
+}
+
+#[test]
+fn random_words_repeated() {
+    let mut random = Random::new(15);
+    for _ in 0..500 {
+        let n = 1 + random.below(2_000);
+        let (length, size) = (1 + random.below(20), 1 + random.below(3));
+        let word = samples::random_string(&mut random, length, size);
+        check_string(&mut random, &samples::repeated(&word, n), 3);
+    }
+}
