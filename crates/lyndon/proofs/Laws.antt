@@ -1,18 +1,16 @@
 -- The claims of specs/Claims.antt, each proved.
-use mathlib.Core.Path.{_≡_, sym, ap, _∙_}
+use mathlib.Core.Path.{_≡_}
 use mathlib.Core.List.{List}
 use Prim.Native.Nat.{ℕ}
 use lib.ListN.{length}
 use borrow.Author.Tests.{eq-eqb}
-use Rattle.suffix.specs.Rows.{Tables}
 use Rattle.suffix.proofs.Laws.{allRowsGiveAllEntries}
-use Rattle.refusal.specs.Conditions.{treeRefusal}
 use Rattle.build.specs.Built.{Lent, lentAfter, refusalOf, lentAtExit}
 use Rattle.build.proofs.Answers.{accepted}
-use Rattle.brackets.specs.Claims.{ReadsAs}
 use Rattle.brackets.proofs.Laws.{finishedTree, haltedTreeIsRefused as refusedHalted}
 use Rattle.lyndon.specs.Claims.{BuiltThenRead, HaltedTreeIsRefused}
 
+-- what a build that is not refused leaves
 left : (letters : List ℕ) (R : ℕ) (before : Lent) → refusalOf letters R before ≡ 0 → lentAtExit letters R before ≡ lentAfter letters R
 unfolding lentAtExit
 left letters R before e = rw (eq-eqb (refusalOf letters R before) 0 e, lentAtExit)

@@ -1,3 +1,4 @@
 pub mod Places
 pub mod Writes
 pub mod Builds
+pub mod Examples

@@ -4,7 +4,7 @@ use mathlib.Core.List.{List, [], _∷_, _++_, append-assoc, append-nil}
 use Prim.Native.Nat.{ℕ, zero, suc, _+_, _-_, _*_, _≤_, _<_}
 use native.Mathlib.Numerals.{add-one}
 use native.Mathlib.Omega.{arith}
-use lib.ListN.{length, take, drop, set, getD, length-append}
+use lib.ListN.{length, take, set, getD, length-append}
 use lib.Seq.{take-at, take-length, length-take-le, take-suc-set}
 use borrow.Author.Tests.{eq-eqb, ne-eqb}
 use Rattle.suffix.proofs.Cases.{Same, same, other, same?}
@@ -47,14 +47,13 @@ pub figure-size : (name : List ℕ) (x : ℕ) → length (figure name x) ≡ len
 unfolding figure
 figure-size name x = length-append name (field x 32)
 
-abbrev pub length-word : List ℕ
-length-word = 108 ∷ 101 ∷ 110 ∷ 103 ∷ 116 ∷ 104 ∷ 32 ∷ []
-
-abbrev pub comparisons-word : List ℕ
-comparisons-word = 99 ∷ 111 ∷ 109 ∷ 112 ∷ 97 ∷ 114 ∷ 105 ∷ 115 ∷ 111 ∷ 110 ∷ 115 ∷ 32 ∷ []
-
-pub head-size : (n c : ℕ) (t : List ℕ) → length (headText n c t) ≡ 7 + length (field n 32) + (12 + length (field c 32) + (5 + (length (treeText t) + 1)))
-unfolding headText figure
+pub head-size :
+    (n c : ℕ) (t : List ℕ)
+    → length (headText n c t)
+    ≡ length (figure (108 ∷ 101 ∷ 110 ∷ 103 ∷ 116 ∷ 104 ∷ 32 ∷ []) n)
+    + (length (figure (99 ∷ 111 ∷ 109 ∷ 112 ∷ 97 ∷ 114 ∷ 105 ∷ 115 ∷ 111 ∷ 110 ∷ 115 ∷ 32 ∷ []) c)
+    + (5 + (length (treeText t) + 1)))
+unfolding headText
 head-size n c t = simp length-append (omega arith)
 
 pub hexes-more : (t : List ℕ) (k : ℕ) → hexes t (k + 1) ≡ hexes t k ++ digits 16 2 (getD t k 0)
@@ -100,6 +99,9 @@ tree-some t e = rw (ne-eqb (length t) 0 e)
 field-most : (x b : ℕ) → length (field x b) ≤ 21
 field-most x b = omega (arith, field-size x b, decimal-most x)
 
+figure-most : (name : List ℕ) (x : ℕ) → length (figure name x) ≤ length name + 21
+figure-most name x = omega (arith, figure-size name x, field-most x 32)
+
 dash-most : (n p : ℕ) → length (orDash n p) ≤ 21
 dash-most n p = go (same? p n)
   where
@@ -133,4 +135,4 @@ tree-most t h = go (same? (length t) 0)
     go (other e) = omega (arith, ap length (tree-some t e), hexes-size t (length t))
 
 pub head-most : (n c : ℕ) (t : List ℕ) → length t ≤ 512 → length (headText n c t) ≤ 1100
-head-most n c t h = omega (arith, head-size n c t, field-most n 32, field-most c 32, tree-most t h)
+head-most n c t h = omega (arith, head-size n c t, figure-most (108 ∷ 101 ∷ 110 ∷ 103 ∷ 116 ∷ 104 ∷ 32 ∷ []) n, figure-most (99 ∷ 111 ∷ 109 ∷ 112 ∷ 97 ∷ 114 ∷ 105 ∷ 115 ∷ 111 ∷ 110 ∷ 115 ∷ 32 ∷ []) c, tree-most t h)

@@ -6,31 +6,19 @@ use borrow.Author.Needs.{needs}
 use Rattle.tables.proofs.print.Statement.{statement}
 use Rattle.tables.proofs.print.Tie as tie
 
-text-buffer-requires : tie.Need-text-buffer-requires
-text-buffer-requires c κs = search needs
-
-render-requires : tie.Need-render-requires
-render-requires c κs = search needs
-
 array-share-prefix-text : tie.Need-array-share-prefix-text
 array-share-prefix-text c = rendered-fits (c .render .ensures)
 
 slice-aggregate-write-all : tie.Need-slice-aggregate-write-all
 slice-aggregate-write-all c = c .before .render .ensures .size ∙ sym (ap length (c .before .render .ensures .text))
 
-write-all-requires : tie.Need-write-all-requires
-write-all-requires c κs = search needs
-
-returns : tie.Need-returns
-returns c = search needs
-
 pub print-spec : {M : Type 1} → statement M
 print-spec =
     tie.close
     (tie.spec
-    text-buffer-requires
-    render-requires
+    (λ c κs. search needs)
+    (λ c κs. search needs)
     array-share-prefix-text
     slice-aggregate-write-all
-    write-all-requires
-    returns)
+    (λ c κs. search needs)
+    (λ c. search needs))

@@ -1,6 +1,5 @@
 -- `tables::put_decimal` meets its contract, by what `io::decimal` ensures.
 use mathlib.Core.Path.{_≡_, ap, _∙_}
-use Prim.Native.Nat.{_-_}
 use native.Mathlib.Omega.{arith}
 use lib.ListN.{length, take}
 use borrow.Author.Needs.{needs}
@@ -9,23 +8,11 @@ use Rattle.tables.proofs.Places.{decimal-is}
 use Rattle.tables.proofs.put_decimal.Statement.{statement}
 use Rattle.tables.proofs.put_decimal.Tie as tie
 
-decimal-requires : tie.Need-decimal-requires
-decimal-requires c κs = search needs
-
-array-share-prefix-text : tie.Need-array-share-prefix-text
-array-share-prefix-text c = search needs
-
-slice-aggregate-put : tie.Need-slice-aggregate-put
-slice-aggregate-put c = search needs
-
 put-requires : tie.Need-put-requires
 put-requires c κs =
     let w = c .before .before .decimal in
     let n = c .before .before .before .before .before .args .n in
     omega (arith, ap length (w .ensures .1 .1 ∙ decimal-is n (w .result) (omega arith) (w .ensures .1 .0)))
-
-same-length : tie.Need-same-length
-same-length c = search needs
 
 returns : tie.Need-returns
 returns c =
@@ -38,9 +25,9 @@ pub put-decimal-spec : {M : Type 1} → statement M
 put-decimal-spec =
     tie.close
     (tie.spec
-    decimal-requires
-    array-share-prefix-text
-    slice-aggregate-put
+    (λ c κs. search needs)
+    (λ c. search needs)
+    (λ c. search needs)
     put-requires
-    same-length
+    (λ c. search needs)
     returns)

@@ -16,12 +16,9 @@ put-byte-requires c κs =
     let a = c .before .before .before .before .before .before .args in
     omega (arith, field-size (a .n) (a .b), c .before .before .before .put-decimal .ensures .size)
 
-same-length : tie.Need-same-length
-same-length c = search needs
-
 returns : tie.Need-returns
 unfolding field
 returns c = wrote-then (c .before .before .before .before .before .before .put-decimal .ensures) (c .before .before .put-byte .ensures)
 
 pub put-field-spec : {M : Type 1} → statement M
-put-field-spec = tie.close (tie.spec put-decimal-requires put-byte-requires same-length returns)
+put-field-spec = tie.close (tie.spec put-decimal-requires put-byte-requires (λ c. search needs) returns)

@@ -12,12 +12,9 @@ put-requires c κs = let s = c .before .before .before in omega (arith, figure-s
 put-field-requires : tie.Need-put-field-requires
 put-field-requires c κs = let s = c .before .before .before .before .before .before .before in omega (arith, figure-size (s .args .name .now) (s .args .x), s .pre, c .before .before .before .put .ensures .size, c .before .before .before .put .kept .0)
 
-same-length : tie.Need-same-length
-same-length c = search needs
-
 returns : tie.Need-returns
 unfolding figure
 returns c = wrote-then (c .before .before .before .before .before .before .put .ensures) (c .before .before .put-field .ensures)
 
 pub put-figure-spec : {M : Type 1} → statement M
-put-figure-spec = tie.close (tie.spec put-requires put-field-requires same-length returns)
+put-figure-spec = tie.close (tie.spec put-requires put-field-requires (λ c. search needs) returns)

@@ -1,7 +1,7 @@
 -- `tables::put_hex` meets its contract, by what `io::hex` ensures.
 use mathlib.Core.Path.{_≡_, ap, _∙_}
 use mathlib.Core.List.{List}
-use Prim.Native.Nat.{ℕ, _-_, _<_}
+use Prim.Native.Nat.{ℕ, _<_}
 use native.Mathlib.Omega.{arith}
 use lib.ListN.{length, take}
 use borrow.Author.Needs.{needs}
@@ -9,18 +9,6 @@ use Rattle.io.specs.Digits.{digits, Fewest}
 use Rattle.tables.proofs.Places.{two}
 use Rattle.tables.proofs.put_hex.Statement.{statement}
 use Rattle.tables.proofs.put_hex.Tie as tie
-
-wide-requires : tie.Need-wide-requires
-wide-requires c κs = search needs
-
-hex-requires : tie.Need-hex-requires
-hex-requires c κs = search needs
-
-array-share-prefix-text : tie.Need-array-share-prefix-text
-array-share-prefix-text c = search needs
-
-slice-aggregate-put : tie.Need-slice-aggregate-put
-slice-aggregate-put c = search needs
 
 -- what was spelled is the byte's two digits
 spelled : (n b k : ℕ) (l : List ℕ) → n ≡ b → b < 256 → Fewest 16 2 n k → take k l ≡ digits 16 k n → take k l ≡ digits 16 2 b
@@ -34,9 +22,6 @@ put-requires c κs =
     let v = c .before .before .before .before .wide in
     omega (arith, ap length (spelled (v .result) (b .args .b) (w .result) (w .last .1 .1 .0) (v .ensures) (omega arith) (w .ensures .1 .0) (w .ensures .1 .1)))
 
-same-length : tie.Need-same-length
-same-length c = search needs
-
 returns : tie.Need-returns
 returns c =
     let w = c .before .before .before .before .before .hex in
@@ -49,10 +34,10 @@ pub put-hex-spec : {M : Type 1} → statement M
 put-hex-spec =
     tie.close
     (tie.spec
-    wide-requires
-    hex-requires
-    array-share-prefix-text
-    slice-aggregate-put
+    (λ c κs. search needs)
+    (λ c κs. search needs)
+    (λ c. search needs)
+    (λ c. search needs)
     put-requires
-    same-length
+    (λ c. search needs)
     returns)

@@ -9,28 +9,22 @@ use Rattle.tables.proofs.put_line.Tie as tie
 put-field-requires : tie.Need-put-field-requires
 put-field-requires c κs =
     let a = c .before .before .args in
-    omega (arith, line-size (a .n) (a .i) (a .p) (a .q), c .before .before .pre)
+    omega (arith, line-size (a .n) (a .i) (a .p) (a .q))
 
 put-previous-requires : tie.Need-put-previous-requires
 put-previous-requires c κs =
     let a = c .before .before .before .before .before .before .args in
-    omega (arith, line-size (a .n) (a .i) (a .p) (a .q), c .before .before .before .before .before .before .pre, c .before .before .before .put-field .ensures .size)
+    omega (arith, line-size (a .n) (a .i) (a .p) (a .q))
 
 put-field-requires-2 : tie.Need-put-field-requires-2
 put-field-requires-2 c κs =
     let a = c .before .before .before .before .before .before .before .before .before .before .args in
-    omega (arith, line-size (a .n) (a .i) (a .p) (a .q), c .before .before .before .before .before .before .before .before .before .before .pre, c .before .before .before .put-previous .ensures .size, c .before .before .before .before .before .before .before .put-field .ensures .size)
-
-sub-put-field : tie.Need-sub-put-field
-sub-put-field c = search needs
+    omega (arith, line-size (a .n) (a .i) (a .p) (a .q))
 
 put-field-requires-3 : tie.Need-put-field-requires-3
 put-field-requires-3 c κs =
     let a = c .before .before .before .before .before .before .before .before .before .before .before .before .before .before .args in
-    omega (arith, line-size (a .n) (a .i) (a .p) (a .q), c .before .before .before .before .before .before .before .before .before .before .before .before .before .before .pre, c .before .before .before .put-field2 .ensures .size, c .before .before .before .before .before .before .before .put-previous .ensures .size, c .before .before .before .before .before .before .before .before .before .before .before .put-field .ensures .size)
-
-same-length : tie.Need-same-length
-same-length c = search needs
+    omega (arith, line-size (a .n) (a .i) (a .p) (a .q))
 
 returns : tie.Need-returns
 unfolding lineText
@@ -43,7 +37,7 @@ put-line-spec =
     put-field-requires
     put-previous-requires
     put-field-requires-2
-    sub-put-field
+    (λ c. search needs)
     put-field-requires-3
-    same-length
+    (λ c. search needs)
     returns)

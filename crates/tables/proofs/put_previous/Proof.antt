@@ -7,16 +7,10 @@ use Rattle.tables.proofs.Writes.{dash, no-dash}
 use Rattle.tables.proofs.put_previous.Statement.{statement}
 use Rattle.tables.proofs.put_previous.Tie as tie
 
-slice-aggregate-put : tie.Need-slice-aggregate-put
-slice-aggregate-put c = search needs
-
 put-requires : tie.Need-put-requires
 put-requires c κs =
     let a = c .before .before .before .before .args in
     omega (arith, ap length (dash (a .n) (a .p) (c .before .before .if1 .taken)))
-
-same-length : tie.Need-same-length
-same-length c = search needs
 
 returns : tie.Need-returns
 returns c =
@@ -28,9 +22,6 @@ put-field-requires c κs =
     let a = c .before .before .before .args in
     omega (arith, ap length (no-dash (a .n) (a .p) (c .before .if1 .left)))
 
-same-length-2 : tie.Need-same-length-2
-same-length-2 c = search needs
-
 returns-2 : tie.Need-returns-2
 returns-2 c =
     let a = c .before .before .before .before .before .before .args in
@@ -40,10 +31,10 @@ pub put-previous-spec : {M : Type 1} → statement M
 put-previous-spec =
     tie.close
     (tie.spec
-    slice-aggregate-put
+    (λ c. search needs)
     put-requires
-    same-length
+    (λ c. search needs)
     returns
     put-field-requires
-    same-length-2
+    (λ c. search needs)
     returns-2)

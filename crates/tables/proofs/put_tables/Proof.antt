@@ -7,9 +7,6 @@ use borrow.Author.Needs.{needs}
 use Rattle.tables.proofs.put_tables.Statement.{statement}
 use Rattle.tables.proofs.put_tables.Tie as tie
 
-build-all-requires : tie.Need-build-all-requires
-build-all-requires c κs = search needs
-
 put-head-requires : tie.Need-put-head-requires
 put-head-requires c κs = let s = c .before .before .before .before .before .before .before .before .before .before .before .before .before .before .before .before .before .before .before .before .before .before .before .before .before in omega (arith, head-fits (c .before .before .before .before .before .before .before .before .before .before .before .before .build-all .ensures) (s .pre .0 .few), s .pre .1)
 
@@ -19,24 +16,6 @@ put-lines-requires c κs = let s = c .before .before .before .before .before .be
     let y = s .args .letters .now in
     (w .nearests, omega (arith, head-fits w (s .pre .0 .few), lines-most y (length y), s .pre .0 .few, s .pre .1, c .before .before .before .before .before .put-head .ensures .size, c .before .before .before .before .before .put-head .kept .0))
 
-same-length : tie.Need-same-length
-same-length c = search needs
-
-same-length-2 : tie.Need-same-length-2
-same-length-2 c = search needs
-
-same-length-3 : tie.Need-same-length-3
-same-length-3 c = search needs
-
-same-length-4 : tie.Need-same-length-4
-same-length-4 c = search needs
-
-same-length-5 : tie.Need-same-length-5
-same-length-5 c = search needs
-
-same-length-6 : tie.Need-same-length-6
-same-length-6 c = search needs
-
 returns : tie.Need-returns
 returns c = wrote-tables (c .before .before .before .before .before .before .before .before .before .before .before .before .before .before .before .before .before .before .before .before .before .build-all .ensures) (c .before .before .before .before .before .before .before .before .put-head .ensures) (c .before .before .put-lines .ensures)
 
@@ -44,13 +23,13 @@ pub put-tables-spec : {M : Type 1} → statement M
 put-tables-spec =
     tie.close
     (tie.spec
-    build-all-requires
+    (λ c κs. search needs)
     put-head-requires
     put-lines-requires
-    same-length
-    same-length-2
-    same-length-3
-    same-length-4
-    same-length-5
-    same-length-6
+    (λ c. search needs)
+    (λ c. search needs)
+    (λ c. search needs)
+    (λ c. search needs)
+    (λ c. search needs)
+    (λ c. search needs)
     returns)

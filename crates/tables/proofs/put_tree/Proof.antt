@@ -11,9 +11,6 @@ put-byte-requires : tie.Need-put-byte-requires
 put-byte-requires c κs =
     omega (arith, ap length (tree-none (c .before .before .before .before .args .tree .now) (omega arith)))
 
-same-length : tie.Need-same-length
-same-length c = search needs
-
 returns : tie.Need-returns
 returns c =
     rw (tree-none (c .before .before .before .before .before .before .before .args .tree .now) (omega arith)) (c .before .before .put-byte .ensures)
@@ -22,9 +19,6 @@ put-hexes-requires : tie.Need-put-hexes-requires
 put-hexes-requires c κs =
     omega (arith, ap length (tree-some (c .before .before .before .before .args .tree .now) (omega arith)))
 
-same-length-2 : tie.Need-same-length-2
-same-length-2 c = search needs
-
 returns-2 : tie.Need-returns-2
 returns-2 c =
     rw (tree-some (c .before .before .before .before .before .before .before .args .tree .now) (omega arith)) (c .before .before .put-hexes .ensures)
@@ -32,4 +26,4 @@ returns-2 c =
 pub put-tree-spec : {M : Type 1} → statement M
 put-tree-spec =
     tie.close
-    (tie.spec put-byte-requires same-length returns put-hexes-requires same-length-2 returns-2)
+    (tie.spec put-byte-requires (λ c. search needs) returns put-hexes-requires (λ c. search needs) returns-2)

@@ -5,21 +5,12 @@ use borrow.Author.Needs.{needs}
 use Rattle.tables.proofs.render.Statement.{statement}
 use Rattle.tables.proofs.render.Tie as tie
 
-slice-aggregate-put : tie.Need-slice-aggregate-put
-slice-aggregate-put c = search needs
-
-put-requires : tie.Need-put-requires
-put-requires c κs = search needs
-
 returns : tie.Need-returns
 returns c = rendered-long (c .before .before .before .before .before .args .letters .now) (omega arith) (c .put .ensures)
-
-put-tables-of-requires : tie.Need-put-tables-of-requires
-put-tables-of-requires c κs = search needs
 
 returns-2 : tie.Need-returns-2
 returns-2 c = rendered-tables (c .before .before .before .before .args .letters .now) (omega arith) (c .put-tables-of .ensures)
 
 pub render-spec : {M : Type 1} → statement M
 render-spec =
-    tie.close (tie.spec slice-aggregate-put put-requires returns put-tables-of-requires returns-2)
+    tie.close (tie.spec (λ c. search needs) (λ c κs. search needs) returns (λ c κs. search needs) returns-2)
