@@ -101,13 +101,13 @@ text-tables : (y : List ℕ) → length y ≤ 2048 → programText y ≡ tablesT
 unfolding programText
 text-tables y h = rw (le-ltb 2048 (length y) h)
 
-rendered : {y a b t : List ℕ} {r : ℕ} → programText y ≡ t → Wrote a b t 0 r → Rendered y b r
-rendered e w = record { size = omega (arith, w .size, ap length e); text = w .text ∙ sym e }
+rendered : {y a b t : List ℕ} {r : ℕ} → programText y ≡ t → Wrote a b t 0 r → Rendered y a b r
+rendered e w = record { size = omega (arith, w .size, ap length e); text = w .text ∙ sym e; rest = w .rest }
 
-pub rendered-long : (y : List ℕ) → 2048 < length y → {a b : List ℕ} {r : ℕ} → Wrote a b tooLongText 0 r → Rendered y b r
+pub rendered-long : (y : List ℕ) → 2048 < length y → {a b : List ℕ} {r : ℕ} → Wrote a b tooLongText 0 r → Rendered y a b r
 rendered-long y h w = rendered (text-long y h) w
 
-pub rendered-tables : (y : List ℕ) → length y ≤ 2048 → {a b : List ℕ} {r : ℕ} → Wrote a b (tablesText y) 0 r → Rendered y b r
+pub rendered-tables : (y : List ℕ) → length y ≤ 2048 → {a b : List ℕ} {r : ℕ} → Wrote a b (tablesText y) 0 r → Rendered y a b r
 rendered-tables y h w = rendered (text-tables y h) w
 
 take-fits : (r : ℕ) (l : List ℕ) → length (take r l) ≡ r → r ≤ length l
@@ -115,5 +115,5 @@ take-fits zero l e = omega arith
 take-fits (suc r) [] e = absurd (omega arith)
 take-fits (suc r) (x ∷ l) e = let h : r ≤ length l = take-fits r l (omega arith) in omega arith
 
-pub rendered-fits : {y out : List ℕ} {r : ℕ} → Rendered y out r → r ≤ length out
-rendered-fits {y} {out} {r} w = take-fits r out (omega (arith, ap length (w .text), w .size))
+pub rendered-fits : {y before out : List ℕ} {r : ℕ} → Rendered y before out r → r ≤ length out
+rendered-fits {y} {before} {out} {r} w = take-fits r out (omega (arith, ap length (w .text), w .size))

@@ -2,15 +2,16 @@
 use mathlib.Core.Path.{_≡_}
 use mathlib.Core.List.{List, _++_}
 use Prim.Native.Nat.{ℕ, _+_, _≤_, _<_}
-use lib.ListN.{length, getD, take}
+use lib.ListN.{length, getD, take, drop}
 use Rattle.suffix.specs.Nearest.{previous, next}
 use Rattle.suffix.specs.Tree.{treeBytes, treeLength}
 use Rattle.build.specs.Built.{comparisons, Figures, finished, halted, refused}
 
--- the text t was put into a at x, which made b, and it ends at z
+-- the text t was put into a at x, which made b; it ends at z, and what stands before and behind it is as it was
 pub record Wrote (a b t : List ℕ) (x z : ℕ) : Type 0 where
   pub size : z ≡ x + length t
   pub text : take z b ≡ take x a ++ t
+  pub rest : drop z b ≡ drop z a
 
 -- memory for n positions: four tables and a tree, by their lengths
 pub record Room (n p q pm qm t : ℕ) : Type 0 where

@@ -4,7 +4,7 @@ use mathlib.Core.Bool.{cond}
 use mathlib.Core.List.{List, [], _∷_, _++_}
 use Prim.Native.Nat.{ℕ, zero, suc, _-_, _/_}
 use lib.Dec.{ltb, eqb}
-use lib.ListN.{length, getD, take}
+use lib.ListN.{length, getD, take, drop}
 use Rattle.io.specs.Digits.{digits}
 use Rattle.suffix.specs.Ranks.{ranks}
 use Rattle.suffix.specs.Nearest.{previous, next}
@@ -69,7 +69,8 @@ tooLongText = 116 ∷ 111 ∷ 111 ∷ 32 ∷ 108 ∷ 111 ∷ 110 ∷ 103 ∷ 10 
 unfoldable pub programText : List ℕ → List ℕ
 programText letters = cond (ltb 2048 (length letters)) tooLongText (tablesText (ranks letters))
 
--- out begins with the whole text for these letters, which is r bytes long
-pub record Rendered (letters out : List ℕ) (r : ℕ) : Type 0 where
+-- at exit the buffer begins with the whole text for these letters, which is r bytes long; behind it it is as it was
+pub record Rendered (letters before after : List ℕ) (r : ℕ) : Type 0 where
   pub size : r ≡ length (programText letters)
-  pub text : take r out ≡ programText letters
+  pub text : take r after ≡ programText letters
+  pub rest : drop r after ≡ drop r before

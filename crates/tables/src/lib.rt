@@ -232,7 +232,7 @@ fn put_tables_of(out: &mut [u8], letters: &[u8]) -> usize
 
 // Puts the whole text for these letters at the start of out, and answers its length.
 pub fn render(letters: &[u8], out: &mut [u8; 180000]) -> usize
-    ensures { λ r. ⌜ Rendered (now (letters .entry)) (now (out .exit)) r ⌝ }
+    ensures { λ r. ⌜ Rendered (now (letters .entry)) (now (out .entry)) (now (out .exit)) r ⌝ }
 {
     if letters.len() > 2048 {
         return put(out, 0, b"too long\n");

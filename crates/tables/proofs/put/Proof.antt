@@ -1,5 +1,8 @@
 -- `tables::put` meets its contract, by the copy of `bytes`.
 use borrow.Author.Needs.{needs}
+use Prim.Native.Nat.{_-_}
+use native.Mathlib.Omega.{arith}
+use lib.ListN.{length}
 use Rattle.tables.proofs.Writes.{wrote-part}
 use Rattle.tables.proofs.put.Statement.{statement}
 use Rattle.tables.proofs.put.Tie as tie
@@ -8,7 +11,7 @@ returns : tie.Need-returns
 returns c =
     let a = c .before .before .before .before .before .before .args in
     let w = c .before .before .copy in
-    wrote-part (a .out .now) (a .s .now) (w .last .1 .0) _ _ (a .at) (w .result) (c .before .before .before .before .before .before .pre) (w .ensures .0) (w .ensures .1)
+    wrote-part (a .out .now) (a .s .now) (w .last .1 .0) (a .at) (length (a .out .now) - a .at) (w .result) (c .before .before .before .before .before .before .pre) (omega arith) (w .ensures .0) (w .ensures .1)
 
 pub put-spec : {M : Type 1} → statement M
 put-spec =
