@@ -8,9 +8,9 @@ use native.Mathlib.Omega.{arith}
 use lib.IntN.{ℤ, pos, negsuc}
 use lib.ListN.{length, getD}
 use lib.Signed.{mag}
-use borrow.Author.Tests.{ltb-false}
+use borrow.Author.Tests.{ltb-false, ltb-true}
 use Rattle.refusal.specs.Conditions.{bitOf}
-use Rattle.brackets.specs.Searching.{opened, Passed, Fell, Reached, passed, fell, isMinus, Searched, ByteSearched, bitFrom, stepAt, stepSum, byteFrom, ones, dip, stopsAt, passedAt, passedSum, Live, Ready}
+use Rattle.brackets.specs.Searching.{opened, Passed, Fell, Reached, passed, fell, isMinus, Searched, ByteSearched, passedFrom, stepAt, stepSum, hasEight, ones, dip, stopsAt, passedSum, Live, Ready}
 use Rattle.brackets.proofs.Searching.{passed-none, passed-on, reached-on, passed-small, step-reached, byte-forward, byte-back}
 
 -- at lies on the way from a to e, which lies in the tree
@@ -20,7 +20,7 @@ pub record Way (back : Bool) (a e bytes at : ℕ) : Type 0 where
 
 pub record Going (g : ℕ → Bool) (back : Bool) (a s e bytes at : ℕ) (sum : ℤ) : Type 0 where
   pub low : sum ≡ pos (mag sum)
-  pub start : s ≤ 4000000
+  pub start : s ≤ 8000000
   pub fits : bytes ≤ 250000
   pub passed : Passed g a s at (mag sum)
   pub way : Way back a e bytes at
@@ -29,7 +29,7 @@ pub going-start : (g : ℕ → Bool) {back : Bool} {at e bytes : ℕ} {sum : ℤ
 going-start g {back} {at} R =
     record {
       low = R .low;
-      start = R .small;
+      start = omega (arith, R .small);
       fits = R .fits;
       passed = passed-none;
       way = record { on = λ b. (omega arith, R .on b .0, R .on b .1); down = λ b. (R .down b .0, omega arith, R .down b .1) };
@@ -43,6 +43,18 @@ way-between true W = let r = W .down refl in (omega (arith, r), omega (arith, r)
 way-low : (back : Bool) {a e bytes at : ℕ} → Way back a e bytes at → (at ≤ 8 * bytes) × (max a at ≤ 8 * bytes)
 way-low false W = let r = W .on refl in (omega (arith, r), omega (arith, r))
 way-low true W = let r = W .down refl in (omega (arith, r), omega (arith, r))
+
+-- one way, and from its end another
+way-turns : (back : Bool) {a b e bytes at : ℕ} → Way back a e bytes b → Way back b e bytes at → (min a at ≤ b) × (b ≤ max a at)
+way-turns false U W = let r = U .on refl in let q = W .on refl in (omega (arith, r, q), omega (arith, r, q))
+way-turns true U W = let r = U .down refl in let q = W .down refl in (omega (arith, r, q), omega (arith, r, q))
+
+way-on : {back : Bool} {a b e bytes at : ℕ} → Way back a e bytes b → Way back b e bytes at → Way back a e bytes at
+way-on U W =
+    record {
+      on = λ z. let r = U .on z in let q = W .on z in (omega (arith, r, q), q .1, q .2);
+      down = λ z. let r = U .down z in let q = W .down z in (q .0, omega (arith, r, q), r .2);
+    }
 
 -- after a step
 way-step : (back : Bool) {a e bytes at : ℕ} → Way back a e bytes at → at ≢ e → Way back a e bytes (stepAt back at)
@@ -67,11 +79,11 @@ module _ {g : ℕ → Bool} {a s e bytes at : ℕ} {sum : ℤ} where
   pub bit-down : (back : Bool) → Going g back a s e bytes at sum → at ≢ e → back ≡ true → 0 < at
   bit-down back G ne b = omega (arith, G .way .down b)
 
-  pub bit-in : (back : Bool) → Going g back a s e bytes at sum → at ≢ e → bitFrom back at / 8 < bytes
+  pub bit-in : (back : Bool) → Going g back a s e bytes at sum → at ≢ e → passedFrom back at / 8 < bytes
   bit-in false G ne = omega (arith, G .way .on refl)
   bit-in true G ne = omega (arith, G .way .down refl)
 
-  module _ (back opening : Bool) (G : Going g back a s e bytes at sum) (ne : at ≢ e) (bit : opening ≡ g (bitFrom back at)) where
+  module _ (back opening : Bool) (G : Going g back a s e bytes at sum) (ne : at ≢ e) (bit : opening ≡ g (passedFrom back at)) where
     reached : Reached g a s (stepAt back at) (stepSum back opening (mag sum))
     reached =
         let w = on-the-way back (G .way) ne in
@@ -97,53 +109,54 @@ module _ {g : ℕ → Bool} {a s e bytes at : ℕ} {sum : ℤ} where
   pub going-ended : (back : Bool) → Going g back a s e bytes at sum → at ≡ e → Searched g a s e at sum
   going-ended back G q = record { reached = rw (G .low) (passed (G .passed)); between = way-between back (G .way); ends = λ _. q }
 
--- ---- by whole bytes
+-- ---- by whole bytes: from bit a, and now at the start of byte j of t, towards that of byte f
 
-pub record GoingBytes (t : List ℕ) (back : Bool) (a s e at : ℕ) (sum : ℤ) : Type 0 where
-  pub going : Going (bitOf t) back a s e (length t) at sum
-  pub edge : at % 8 ≡ 0
-  pub end-edge : e % 8 ≡ 0
+pub record GoingBytes (t : List ℕ) (back : Bool) (a s f j : ℕ) (sum : ℤ) : Type 0 where
+  pub going : Going (bitOf t) back a s (8 * f) (length t) (8 * j) sum
 
-way-pass : (back : Bool) {a e bytes at : ℕ} → Way back a e bytes at → at ≢ e → at % 8 ≡ 0 → e % 8 ≡ 0 → Way back a e bytes (passedAt back at)
-way-pass false W ne p q = let r = W .on refl in record { on = λ b. (omega (arith, r), omega (arith, r), omega (arith, r)); down = λ b. absurd (false≢true b) }
-way-pass true W ne p q = let r = W .down refl in record { on = λ b. absurd (true≢false b); down = λ b. (omega (arith, r), omega (arith, r), omega (arith, r)) }
+way-pass : (back : Bool) {a f bytes j : ℕ} → Way back a (8 * f) bytes (8 * j) → j ≢ f → Way back a (8 * f) bytes (8 * stepAt back j)
+way-pass false W ne = let r = W .on refl in record { on = λ b. (omega (arith, r), omega (arith, r), omega (arith, r)); down = λ b. absurd (false≢true b) }
+way-pass true W ne = let r = W .down refl in record { on = λ b. absurd (true≢false b); down = λ b. (omega (arith, r), omega (arith, r), omega (arith, r)) }
 
-pass-between : (back : Bool) {a e bytes at : ℕ} → Way back a e bytes at → at ≢ e → at % 8 ≡ 0 → e % 8 ≡ 0 → (min a (passedAt back at) ≤ at) × (at ≤ max a (passedAt back at))
-pass-between false W ne p q = let r = W .on refl in (omega (arith, r), omega (arith, r))
-pass-between true W ne p q = let r = W .down refl in (omega (arith, r), omega (arith, r))
+pass-between : (back : Bool) {a f bytes j : ℕ} → Way back a (8 * f) bytes (8 * j) → j ≢ f → (min a (8 * stepAt back j) ≤ 8 * j) × (8 * j ≤ max a (8 * stepAt back j))
+pass-between false W ne = let r = W .on refl in (omega (arith, r), omega (arith, r))
+pass-between true W ne = let r = W .down refl in (omega (arith, r), omega (arith, r))
 
-pub fewer-bytes-left : (back : Bool) {a e bytes at : ℕ} → Way back a e bytes at → at ≢ e → at % 8 ≡ 0 → e % 8 ≡ 0 → (e - passedAt back at) + (passedAt back at - e) < (e - at) + (at - e)
-fewer-bytes-left false W ne p q = omega (arith, W .on refl)
-fewer-bytes-left true W ne p q = omega (arith, W .down refl)
+-- how many bytes are left
+abbrev pub distance : ℕ → ℕ → ℕ
+distance f j = (f - j) + (j - f)
 
-module _ {t : List ℕ} {a s e at : ℕ} {sum : ℤ} where
-  pub byte-down : (back : Bool) → GoingBytes t back a s e at sum → at ≢ e → back ≡ true → 8 ≤ at
-  byte-down back G ne b = omega (arith, G .going .way .down b, G .edge, G .end-edge)
+pub one-byte-less : (back : Bool) {a f bytes j : ℕ} → Way back a (8 * f) bytes (8 * j) → j ≢ f → distance f (stepAt back j) + 1 ≡ distance f j
+one-byte-less false W ne = omega (arith, W .on refl)
+one-byte-less true W ne = omega (arith, W .down refl)
 
-  pub byte-in : (back : Bool) → GoingBytes t back a s e at sum → at ≢ e → byteFrom back at < length t
-  byte-in false G ne = omega (arith, G .going .way .on refl, G .edge, G .end-edge)
-  byte-in true G ne = omega (arith, G .going .way .down refl, G .edge, G .end-edge)
+pub eight-left : (back : Bool) (j f : ℕ) → hasEight back j f ≡ true → 8 ≤ distance f j
+eight-left false j f h = omega (arith, ltb-true (j + 7) f h)
+eight-left true j f h = omega (arith, ltb-true (f + 7) j h)
+
+module _ {t : List ℕ} {a s f j : ℕ} {sum : ℤ} where
+  pub byte-down : (back : Bool) → GoingBytes t back a s f j sum → j ≢ f → back ≡ true → 0 < j
+  byte-down back G ne b = omega (arith, G .going .way .down b)
+
+  pub byte-in : (back : Bool) → GoingBytes t back a s f j sum → j ≢ f → passedFrom back j < length t
+  byte-in false G ne = omega (arith, G .going .way .on refl)
+  byte-in true G ne = omega (arith, G .going .way .down refl)
 
   -- the byte is passed
-  byte-passed : (back : Bool) → GoingBytes t back a s e at sum → at ≢ e → stopsAt back (getD t (byteFrom back at) 0) (mag sum) ≡ false
-      → Passed (bitOf t) at (mag sum) (passedAt back at) (passedSum back (getD t (byteFrom back at) 0) (mag sum))
+  byte-passed : (back : Bool) → GoingBytes t back a s f j sum → j ≢ f → stopsAt back (getD t (passedFrom back j) 0) (mag sum) ≡ false
+      → Passed (bitOf t) (8 * j) (mag sum) (8 * stepAt back j) (passedSum back (getD t (passedFrom back j) 0) (mag sum))
   byte-passed false G ne q =
-      let j : ℕ = at / 8 in
-      let b : ℕ = getD t j 0 in
-      let z : 8 * j ≡ at = omega (arith, G .edge) in
-      rw z at (byte-forward t j (mag sum) (ltb-false (mag sum) (dip b) q))
+      let z : 8 * j + 8 ≡ 8 * (j + 1) = omega arith in
+      rw z at (byte-forward t j (mag sum) (ltb-false (mag sum) (dip (getD t j 0)) q))
   byte-passed true G ne q =
-      let j : ℕ = at / 8 - 1 in
-      let b : ℕ = getD t j 0 in
-      let r = G .going .way .down refl in
-      let z : 8 * j + 8 ≡ at = omega (arith, r, G .edge, G .end-edge) in
-      let y : 8 * j ≡ at - 8 = omega (arith, r, G .edge, G .end-edge) in
-      rw (z, y) at (byte-back t j (mag sum) (ltb-false (mag sum + 8) (2 * ones b 8 + dip b) q))
+      let b : ℕ = getD t (j - 1) 0 in
+      let z : 8 * (j - 1) + 8 ≡ 8 * j = omega (arith, G .going .way .down refl) in
+      rw z at (byte-back t (j - 1) (mag sum) (ltb-false (mag sum + 8) (2 * ones b 8 + dip b) q))
 
-  pub byte-going : (back : Bool) → GoingBytes t back a s e at sum → at ≢ e → {b : ℕ} → b ≡ getD t (byteFrom back at) 0 → stopsAt back b (mag sum) ≡ false
-      → {at′ : ℕ} {sum′ : ℤ} → at′ ≡ passedAt back at → sum′ ≡ pos (passedSum back b (mag sum)) → GoingBytes t back a s e at′ sum′
-  byte-going back G ne {b} eb q {at′} {sum′} p r =
-      let w = pass-between back (G .going .way) ne (G .edge) (G .end-edge) in
+  pub byte-going : (back : Bool) → GoingBytes t back a s f j sum → j ≢ f → {b : ℕ} → b ≡ getD t (passedFrom back j) 0 → stopsAt back b (mag sum) ≡ false
+      → {j′ : ℕ} {sum′ : ℤ} → j′ ≡ stepAt back j → sum′ ≡ pos (passedSum back b (mag sum)) → GoingBytes t back a s f j′ sum′
+  byte-going back G ne {b} eb q {j′} {sum′} p r =
+      let w = pass-between back (G .going .way) ne in
       rw (p, r, eb)
       (record {
         going =
@@ -152,15 +165,42 @@ module _ {t : List ℕ} {a s e at : ℕ} {sum : ℤ} where
               start = G .going .start;
               fits = G .going .fits;
               passed = passed-on (w .0) (w .1) (G .going .passed) (byte-passed back G ne (rw eb at q));
-              way = way-pass back (G .going .way) ne (G .edge) (G .end-edge);
+              way = way-pass back (G .going .way) ne;
             };
-        edge = edge back (G .edge) (λ z. byte-down back G ne z);
-        end-edge = G .end-edge;
       })
-    where
-      edge : (back : Bool) → at % 8 ≡ 0 → (back ≡ true → 8 ≤ at) → passedAt back at % 8 ≡ 0
-      edge false h f = omega arith
-      edge true h f = omega (arith, f refl)
 
-  pub bytes-searched : (back : Bool) → GoingBytes t back a s e at sum → ByteSearched (bitOf t) a s e at sum
-  bytes-searched back G = record { low = G .going .low; passed = G .going .passed; between = way-between back (G .going .way); edge = G .edge }
+  -- a start in the middle, and what was passed from there on
+  pub restart : (back : Bool) → GoingBytes t back a s f j sum → s ≤ 4000000 → GoingBytes t back (8 * j) (mag sum) f j sum
+  restart back G h =
+      let w = way-low back (G .going .way) in
+      record {
+        going =
+            record {
+              low = G .going .low;
+              start = omega (arith, passed-small (G .going .passed), w, G .going .fits);
+              fits = G .going .fits;
+              passed = passed-none;
+              way =
+                  record {
+                    on = λ b. let r = G .going .way .on b in (omega arith, r .1, r .2);
+                    down = λ b. let r = G .going .way .down b in (r .0, omega arith, omega (arith, r));
+                  };
+            };
+      }
+
+  pub then-going : (back : Bool) → GoingBytes t back a s f j sum → {j′ : ℕ} {sum′ : ℤ} → GoingBytes t back (8 * j) (mag sum) f j′ sum′ → GoingBytes t back a s f j′ sum′
+  then-going back G H =
+      let w = way-turns back (G .going .way) (H .going .way) in
+      record {
+        going =
+            record {
+              low = H .going .low;
+              start = G .going .start;
+              fits = G .going .fits;
+              passed = passed-on (w .0) (w .1) (G .going .passed) (H .going .passed);
+              way = way-on (G .going .way) (H .going .way);
+            };
+      }
+
+  pub bytes-searched : (back : Bool) → GoingBytes t back a s f j sum → {b e : ℕ} → a ≡ b → 8 * f ≡ e → ByteSearched (bitOf t) b s e (8 * j) sum
+  bytes-searched back G p q = rw (sym p, sym q) (record { low = G .going .low; passed = G .going .passed; between = way-between back (G .going .way); edge = omega arith })

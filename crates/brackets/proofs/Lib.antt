@@ -5,6 +5,7 @@ pub mod Parsing
 pub mod Reading
 pub mod Entries
 pub mod Conditions
+pub mod Counting
 pub mod Searching
 pub mod Signed
 pub mod Going

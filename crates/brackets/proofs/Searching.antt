@@ -11,7 +11,7 @@ use Rattle.suffix.specs.Search.{countBelow}
 use Rattle.suffix.proofs.Cases.{Tri, lt, eq, gt, tri, Same, same, other, same?, Test, holds, fails, test}
 use Rattle.suffix.proofs.Search.{count-yes, count-no, maximum-least}
 use Rattle.refusal.specs.Conditions.{byteBit, bitOf}
-use Rattle.brackets.specs.Searching.{opened, Above, OneBelow, Passed, Fell, Reached, passed, fell, bitFrom, stepAt, stepSum, ones, dip}
+use Rattle.brackets.specs.Searching.{opened, Above, OneBelow, Passed, Fell, Reached, passed, fell, passedFrom, stepAt, stepSum, ones, dip}
 use Rattle.brackets.proofs.Heights.{opens, shuts, opened-grows}
 
 module _ {g : ℕ → Bool} {a s : ℕ} where
@@ -79,7 +79,7 @@ module _ {g : ℕ → Bool} {k l v : ℕ} (near : (k ≤ l + 1) × (l ≤ k + 1)
       go j h m ne (eq u) = absurd (omega arith)
       go j h m ne (gt u) = let y : j ≡ k = omega (arith, near .0) in rw y (omega arith)
 
-pub step-reached : (g : ℕ → Bool) (back opening : Bool) (k v : ℕ) → (back ≡ true → 0 < k) → g (bitFrom back k) ≡ opening → Reached g k v (stepAt back k) (stepSum back opening v)
+pub step-reached : (g : ℕ → Bool) (back opening : Bool) (k v : ℕ) → (back ≡ true → 0 < k) → g (passedFrom back k) ≡ opening → Reached g k v (stepAt back k) (stepSum back opening v)
 step-reached g false opening k v h e = go opening e v
   where
     z : suc k ≡ k + 1

@@ -46,10 +46,10 @@ pub record Searched (g : ℕ → Bool) (a s e at : ℕ) (sum : ℤ) : Type 0 whe
   pub between : (min a e ≤ at) × (at ≤ max a e)
   pub ends : isMinus sum ≡ false → at ≡ e
 
--- the bit that a search passes next, and where it stands then
-abbrev pub bitFrom : Bool → ℕ → ℕ
-bitFrom false k = k
-bitFrom true k = k - 1
+-- the bit, or the byte, that a search passes next, and where it stands then
+abbrev pub passedFrom : Bool → ℕ → ℕ
+passedFrom false k = k
+passedFrom true k = k - 1
 
 abbrev pub stepAt : Bool → ℕ → ℕ
 stepAt false k = k + 1
@@ -65,10 +65,10 @@ abbrev pub stepSum : Bool → Bool → ℕ → ℤ
 stepSum false opening v = turnedSum opening v
 stepSum true opening v = turnedSum (not opening) v
 
--- the byte that a search at a byte's edge passes next
-abbrev pub byteFrom : Bool → ℕ → ℕ
-byteFrom false k = k / 8
-byteFrom true k = k / 8 - 1
+-- there are eight bytes from one byte to another, forward or back
+abbrev pub hasEight : Bool → ℕ → ℕ → Bool
+hasEight false j f = ltb (j + 7) f
+hasEight true j f = ltb (f + 7) j
 
 -- the nearest byte's edge that is not below bit k, or not above it
 abbrev pub byteEdge : Bool → ℕ → ℕ
@@ -92,11 +92,7 @@ abbrev pub stopsAt : Bool → ℕ → ℕ → Bool
 stopsAt false b v = ltb v (dip b)
 stopsAt true b v = ltb (v + 8) (2 * ones b 8 + dip b)
 
--- where a search stands behind a byte, and the sum there, where it does not fall in the byte
-abbrev pub passedAt : Bool → ℕ → ℕ
-passedAt false k = k + 8
-passedAt true k = k - 8
-
+-- the sum behind a byte in which it does not fall
 abbrev pub passedSum : Bool → ℕ → ℕ → ℕ
 passedSum false b v = v + 2 * ones b 8 - 8
 passedSum true b v = v + 8 - 2 * ones b 8

@@ -5,9 +5,10 @@ ghost use Prim.Native.Nat.{ℕ, _+_, _-_, _*_, _/_, _%_, _≤_, _<_, min, max};
 ghost use lib.Dec.{ltb};
 ghost use lib.IntN.{ℤ, pos};
 ghost use lib.ListN.{length, getD};
+ghost use lib.Count as Count;
 ghost use lib.Signed.{mag};
 ghost use Rattle.suffix.specs.Tree.{treeLength};
-ghost use Rattle.refusal.specs.Conditions.{bitOf, spareBitSet, treeRefusal, questionRefusal};
+ghost use Rattle.refusal.specs.Conditions.{byteBit, bitOf, spareBitSet, treeRefusal, questionRefusal};
 ghost use Rattle.excess.specs.Excess.{excesses, minExcesses};
 ghost use Rattle.brackets.specs.Shape.{previousTable, nextTable};
 ghost use Rattle.brackets.specs.Answers.{
@@ -19,7 +20,7 @@ ghost use Rattle.brackets.specs.Answers.{
   previousAnswer,
   ReadBack,
 };
-ghost use Rattle.brackets.specs.Searching.{opened, Live, Searched, ByteSearched, isMinus, Ready, bitFrom, byteEdge, isPast, turnedSum, stepAt, stepSum, byteFrom, ones, stopsAt, passedAt, passedSum};
+ghost use Rattle.brackets.specs.Searching.{opened, Live, Searched, ByteSearched, isMinus, Ready, passedFrom, byteEdge, isPast, turnedSum, stepAt, stepSum, hasEight, ones, stopsAt, passedSum};
 use excess::EXCESS;
 use excess::MIN_EXCESS;
 use refusal::Refusal;
@@ -46,12 +47,20 @@ fn wide(byte: u8) -> usize
     byte as usize
 }
 
+// The bit of a byte with weight 2 to the power m.
+fn bit(byte: u8, m: usize) -> bool
+    requires { ⌜ m < 8 ⌝ }
+    ensures { λ r. ⌜ r ≡ byteBit byte m ⌝ }
+{
+    (byte >> (m as u8)) % 2 == 1
+}
+
 // Bit k of the bytes.
 fn is_open(tree: &[u8], k: usize) -> bool
     requires { ⌜ k / 8 < length (now tree) ⌝ }
     ensures { λ r. ⌜ r ≡ bitOf (now (tree .entry)) k ⌝ }
 {
-    (tree[k / 8] >> ((k % 8) as u8)) % 2 == 1
+    bit(tree[k / 8], k % 8)
 }
 
 fn fell(s: Search) -> bool
@@ -82,20 +91,12 @@ fn moved(at: usize, back: bool) -> usize
     if back { at - 1 } else { at + 1 }
 }
 
-// The bit that a search passes next.
-fn bit_from(at: usize, back: bool) -> usize
+// The bit, or the byte, that a search passes next.
+fn passing(at: usize, back: bool) -> usize
     requires { ⌜ (back ≡ true → 0 < at) ⌝ }
-    ensures { λ r. ⌜ r ≡ bitFrom back at ⌝ }
+    ensures { λ r. ⌜ r ≡ passedFrom back at ⌝ }
 {
     if back { at - 1 } else { at }
-}
-
-// The byte that a search at a byte's edge passes next.
-fn byte_from(at: usize, back: bool) -> usize
-    requires { ⌜ (back ≡ true → 8 ≤ at) ⌝ }
-    ensures { λ r. ⌜ r ≡ byteFrom back at ⌝ }
-{
-    if back { at / 8 - 1 } else { at / 8 }
 }
 
 // The nearest byte's edge that is not below a bit, or not above it.
@@ -134,19 +135,19 @@ fn stops(s: Search, byte: usize, low: &[i32; 256], all: &[i32; 256], back: bool)
     if back { least < all[byte] } else { least < 0 }
 }
 
-// The sum behind a byte in which it does not fall.
+// Behind a byte in which the sum does not fall. The place counts bytes.
 fn pass_byte(s: Search, byte: usize, all: &[i32; 256], back: bool) -> Search
-    requires { ⌜ Live (s .at) (s .sum) × (byte < 256) × (now all ≡ excesses) × (stopsAt back byte (mag (s .sum)) ≡ false) × (back ≡ true → 8 ≤ s .at) ⌝ }
-    ensures { λ r. ⌜ (r .at ≡ passedAt back (s .at)) × (r .sum ≡ pos (passedSum back byte (mag (s .sum)))) ⌝ }
+    requires { ⌜ Live (s .at) (s .sum) × (byte < 256) × (now all ≡ excesses) × (stopsAt back byte (mag (s .sum)) ≡ false) × (back ≡ true → 0 < s .at) ⌝ }
+    ensures { λ r. ⌜ (r .at ≡ stepAt back (s .at)) × (r .sum ≡ pos (passedSum back byte (mag (s .sum)))) ⌝ }
 {
     if back {
         Search {
-            at: s.at - 8,
+            at: s.at - 1,
             sum: s.sum - all[byte],
         }
     } else {
         Search {
-            at: s.at + 8,
+            at: s.at + 1,
             sum: s.sum + all[byte],
         }
     }
@@ -159,7 +160,7 @@ fn search_bits(tree: &[u8], start: Search, end: usize, back: bool) -> Search
 {
     let mut s = start;
     while s.at != end {
-        let opening = is_open(tree, bit_from(s.at, back));
+        let opening = is_open(tree, passing(s.at, back));
         s = step(s, opening, back);
         if fell(s) {
             return s;
@@ -168,7 +169,15 @@ fn search_bits(tree: &[u8], start: Search, end: usize, back: bool) -> Search
     s
 }
 
-// Goes on, or back, byte by byte to a byte's edge, or to a byte in which the sum falls below 0.
+// There are eight bytes from one place to another, forward or back.
+fn has_eight(at: usize, stop: usize, back: bool) -> bool
+    requires { ⌜ (at ≤ 2000000) × (stop ≤ 2000000) ⌝ }
+    ensures { λ r. ⌜ r ≡ hasEight back at stop ⌝ }
+{
+    if back { stop + 7 < at } else { at + 7 < stop }
+}
+
+// Goes on, or back, by eight bytes at a time while there are eight to a byte's edge, or to a byte in which the sum falls below 0.
 fn search_bytes(
     tree: &[u8],
     start: Search,
@@ -180,14 +189,23 @@ fn search_bytes(
     requires { ⌜ Ready back (start .at) (start .sum) end (length (now tree)) × (start .at % 8 ≡ 0) × (end % 8 ≡ 0) × (now low ≡ minExcesses) × (now all ≡ excesses) ⌝ }
     ensures { λ r. ⌜ ByteSearched (bitOf (now (tree .entry))) (start .at) (mag (start .sum)) end (r .at) (r .sum) ⌝ }
 {
+    let stop = end / 8;
     let mut s = start;
-    while s.at != end {
-        let byte = wide(tree[byte_from(s.at, back)]);
-        if stops(s, byte, low, all, back) {
-            return s;
+    s.at = start.at / 8;
+    while has_eight(s.at, stop, back) {
+        // unrolled by the compiler: how fast a loop of a few instructions is depends on where it is placed
+        let mut m = 0usize;
+        while m < 8 {
+            let byte = wide(tree[passing(s.at, back)]);
+            if stops(s, byte, low, all, back) {
+                s.at = 8 * s.at;
+                return s;
+            }
+            s = pass_byte(s, byte, all, back);
+            m += 1;
         }
-        s = pass_byte(s, byte, all, back);
     }
+    s.at = 8 * s.at;
     s
 }
 
@@ -256,21 +274,28 @@ fn fill_tables(n: usize, tree: &[u8], previous: &mut [u32], next: &mut [u32])
     requires { ⌜ (n ≤ 1000000) × (length (now tree) ≡ treeLength n) × (length (now previous) ≡ n) × (length (now next) ≡ n) × (flawNumber n (now tree) ≡ 0) ⌝ }
     ensures { λ _. ⌜ (now (previous .exit) ≡ previousTable n (now (tree .entry))) × (now (next .exit) ≡ nextTable n (now (tree .entry))) ⌝ }
 {
-    let end = 2 * n;
     let mut top = n as u32;
     let mut i = 0u32;
-    let mut k = 0usize;
-    while k < end {
-        let opening = is_open(tree, k);
-        k += 1;
-        if opening {
-            previous[i as usize] = top;
-            top = i;
-            i += 1;
-        } else {
-            next[top as usize] = i;
-            top = previous[top as usize];
+    let mut j = 0;
+    while j < tree.len() {
+        let byte = tree[j];
+        let mut m = 0;
+        while m < 8 {
+            if 2 * n <= 8 * j + m {
+                return;
+            }
+            let opening = bit(byte, m);
+            m += 1;
+            if opening {
+                previous[i as usize] = top;
+                top = i;
+                i += 1;
+            } else {
+                next[top as usize] = i;
+                top = previous[top as usize];
+            }
         }
+        j += 1;
     }
 }
 
@@ -303,28 +328,71 @@ pub fn read(n: usize, tree: &[u8], previous: &mut [u32], next: &mut [u32]) -> Ve
     }
 }
 
-// A byte, and how many of its openings come before the one that is looked for.
+// A byte, and how many openings come between its start and the one that is looked for.
 struct Place {
     byte: usize,
     left: usize,
 }
 
-fn openings_in(byte: usize, all: &[i32; 256]) -> usize
-    requires { ⌜ (byte < 256) × (now all ≡ excesses) ⌝ }
+fn openings_in(byte: u8) -> usize
     ensures { λ r. ⌜ r ≡ ones byte 8 ⌝ }
 {
-    (8 + all[byte]) as usize / 2
+    u8::count_ones(byte) as usize
 }
 
-// The byte of the opening number i.
-fn select_byte(tree: &[u8], i: usize, all: &[i32; 256]) -> Place
-    requires { ⌜ (length (now tree) ≤ 250000) × (i < opened (bitOf (now tree)) (8 * length (now tree))) × (now all ≡ excesses) ⌝ }
-    ensures { λ r. ⌜ (r .byte < length (now (tree .entry))) × (opened (bitOf (now (tree .entry))) (8 * r .byte) + r .left ≡ i) ⌝ }
+// A number and the byte below it.
+fn joined(high: u64, byte: u8) -> u64
+    requires { ⌜ high < 16777216 ⌝ }
+    ensures { λ r. ⌜ r ≡ high * 256 + byte ⌝ }
+{
+    high * 256 + byte as u64
+}
+
+// Four bytes as a number.
+fn four_bytes(tree: &[u8], j: usize) -> u64
+    requires { ⌜ j + 4 ≤ length (now tree) ⌝ }
+    ensures { λ r. ⌜ (r < 4294967296) × (opened (bitOf (now (tree .entry))) (8 * j) + Count.ones r ≡ opened (bitOf (now (tree .entry))) (8 * j + 32)) ⌝ }
+{
+    let high = joined(tree[j + 3] as u64, tree[j + 2]);
+    joined(joined(high, tree[j + 1]), tree[j])
+}
+
+// The openings in eight bytes.
+fn openings_in_eight(tree: &[u8], j: usize) -> usize
+    requires { ⌜ j + 8 ≤ length (now tree) ⌝ }
+    ensures { λ r. ⌜ opened (bitOf (now (tree .entry))) (8 * j) + r ≡ opened (bitOf (now (tree .entry))) (8 * j + 64) ⌝ }
+{
+    u64::count_ones(four_bytes(tree, j + 4) * 4294967296 + four_bytes(tree, j)) as usize
+}
+
+// Passes whole groups of eight bytes, up to the one that has the opening number i.
+fn pass_eights(tree: &[u8], i: usize) -> Place
+    requires { ⌜ length (now tree) ≤ 250000 ⌝ }
+    ensures { λ r. ⌜ (r .byte ≤ length (now (tree .entry))) × (opened (bitOf (now (tree .entry))) (8 * r .byte) + r .left ≡ i) ⌝ }
 {
     let mut byte = 0;
     let mut left = i;
+    while byte + 8 <= tree.len() {
+        let k = openings_in_eight(tree, byte);
+        if left < k {
+            return Place { byte, left };
+        }
+        left -= k;
+        byte += 8;
+    }
+    Place { byte, left }
+}
+
+// The byte of the opening number i.
+fn select_byte(tree: &[u8], i: usize) -> Place
+    requires { ⌜ (length (now tree) ≤ 250000) × (i < opened (bitOf (now tree)) (8 * length (now tree))) ⌝ }
+    ensures { λ r. ⌜ (r .byte < length (now (tree .entry))) × (opened (bitOf (now (tree .entry))) (8 * r .byte) + r .left ≡ i) ⌝ }
+{
+    let passed = pass_eights(tree, i);
+    let mut byte = passed.byte;
+    let mut left = passed.left;
     while byte < tree.len() {
-        let k = openings_in(wide(tree[byte]), all);
+        let k = openings_in(tree[byte]);
         if left < k {
             return Place { byte, left };
         }
@@ -339,7 +407,7 @@ fn select(tree: &[u8], i: usize) -> usize
     requires { ⌜ (length (now tree) ≤ 250000) × (i < opened (bitOf (now tree)) (8 * length (now tree))) ⌝ }
     ensures { λ r. ⌜ (r < 8 * length (now (tree .entry))) × (bitOf (now (tree .entry)) r ≡ true) × (opened (bitOf (now (tree .entry))) r ≡ i) ⌝ }
 {
-    let p = select_byte(tree, i, &EXCESS);
+    let p = select_byte(tree, i);
     let end = 8 * tree.len();
     let mut k = 8 * p.byte;
     let mut left = p.left;

@@ -10,7 +10,7 @@ use lib.ListN.{getD}
 use lib.Signed.{mag}
 use mir.Syntax.{w32}
 use mir.Val.{toZ, ofZ}
-use Rattle.brackets.specs.Searching.{ones, dip, stopsAt, passedAt, passedSum}
+use Rattle.brackets.specs.Searching.{ones, dip, stopsAt, stepAt, passedSum}
 use Rattle.brackets.proofs.Signed.{back, fits, more-is, fewer-is, ones-most}
 use Rattle.brackets.proofs.Searching.{dip-most}
 use Rattle.brackets.proofs.pass_byte.Statement.{statement}
@@ -69,7 +69,7 @@ returns c =
     let e = c .before .before .before .before .if1 .taken in
     let v = mag (s .args .s .sum) in
     let b = s .args .byte in (
-      sym (ap (λ x. passedAt x (s .args .s .at)) e),
+      sym (ap (λ x. stepAt x (s .args .s .at)) e),
       ap (λ z. toZ w32 (ofZ w32 z)) (fewer s e) ∙ back (pos (passedSum true b v)) (omega (arith, small s true)) ∙ sym (ap (λ x. pos (passedSum x b v)) e),
     )
 
@@ -79,7 +79,7 @@ returns-2 c =
     let e = c .before .before .before .before .if1 .left in
     let v = mag (s .args .s .sum) in
     let b = s .args .byte in (
-      sym (ap (λ x. passedAt x (s .args .s .at)) e),
+      sym (ap (λ x. stepAt x (s .args .s .at)) e),
       ap (λ z. toZ w32 (ofZ w32 z)) (more s e) ∙ back (pos (passedSum false b v)) (omega (arith, small s false)) ∙ sym (ap (λ x. pos (passedSum x b v)) e),
     )
 

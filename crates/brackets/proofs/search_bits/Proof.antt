@@ -5,7 +5,7 @@ use native.Mathlib.Omega.{arith}
 use lib.ListN.{length}
 use lib.Signed.{mag}
 use Rattle.refusal.specs.Conditions.{bitOf}
-use Rattle.brackets.specs.Searching.{bitFrom}
+use Rattle.brackets.specs.Searching.{passedFrom}
 use Rattle.brackets.proofs.Signed.{mag-step}
 use Rattle.brackets.proofs.Going.{Going, going-start, going-live, bit-down, bit-in, fewer-left, step-fell, step-going, going-ended}
 use Rattle.brackets.proofs.search_bits.Statement.{statement}
@@ -20,11 +20,11 @@ abbrev μ-loop : tie.MeasureT-loop
 loop-holds : tie.Need-loop-holds Inv-loop μ-loop
 loop-holds c = going-start (bitOf (c .before .args .tree .now)) (c .before .pre)
 
-bit-from-requires : tie.Need-bit-from-requires Inv-loop μ-loop
-bit-from-requires c κs = bit-down (c .before .before .before .before .args .back) (c .before .before .loop .inv) (c .if1 .taken)
+passing-requires : tie.Need-passing-requires Inv-loop μ-loop
+passing-requires c κs = bit-down (c .before .before .before .before .args .back) (c .before .before .loop .inv) (c .if1 .taken)
 
 is-open-requires : tie.Need-is-open-requires Inv-loop μ-loop
-is-open-requires c κs = rw (c .bit-from .ensures) (bit-in (c .before .before .before .before .before .args .back) (c .before .before .before .loop .inv) (c .before .if1 .taken))
+is-open-requires c κs = rw (c .passing .ensures) (bit-in (c .before .before .before .before .before .args .back) (c .before .before .before .loop .inv) (c .before .if1 .taken))
 
 step-requires : tie.Need-step-requires Inv-loop μ-loop
 step-requires c κs =
@@ -33,8 +33,8 @@ step-requires c κs =
     (going-live b (a .loop .inv), bit-down b (a .loop .inv) (c .before .before .if1 .taken))
 
 -- the bit that was read
-bit : (c : tie.After-is-open Inv-loop μ-loop) → c .is-open .result ≡ bitOf (c .before .before .before .before .before .before .args .tree .now) (bitFrom (c .before .before .before .before .before .before .args .back) (c .before .before .before .before .loop .s .at))
-bit c = c .is-open .ensures ∙ ap (bitOf (c .before .before .before .before .before .before .args .tree .now)) (c .before .bit-from .ensures)
+bit : (c : tie.After-is-open Inv-loop μ-loop) → c .is-open .result ≡ bitOf (c .before .before .before .before .before .before .args .tree .now) (passedFrom (c .before .before .before .before .before .before .args .back) (c .before .before .before .before .loop .s .at))
+bit c = c .is-open .ensures ∙ ap (bitOf (c .before .before .before .before .before .before .args .tree .now)) (c .before .passing .ensures)
 
 fell-requires : tie.Need-fell-requires Inv-loop μ-loop
 fell-requires c κs =
@@ -69,4 +69,4 @@ returns-2 c = going-ended (c .before .before .before .before .args .back) (c .be
 
 pub search-bits-spec : {M : Type 1} → statement M
 search-bits-spec =
-    tie.close (tie.spec Inv-loop μ-loop loop-holds bit-from-requires is-open-requires step-requires fell-requires returns loop-less loop-again returns-2)
+    tie.close (tie.spec Inv-loop μ-loop loop-holds passing-requires is-open-requires step-requires fell-requires returns loop-less loop-again returns-2)

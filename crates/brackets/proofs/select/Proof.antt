@@ -6,8 +6,7 @@ use mathlib.Core.Logic.{_≢_}
 use Prim.Native.Nat.{ℕ, suc, _+_, _-_, _*_, _/_, _≤_, _<_}
 use native.Mathlib.Omega.{arith}
 use lib.ListN.{length}
-use Rattle.refusal.specs.Conditions.{byteBit, bitOf}
-use Rattle.excess.specs.Excess.{byteExcess}
+use Rattle.refusal.specs.Conditions.{bitOf}
 use Rattle.brackets.specs.Searching.{opened}
 use Rattle.brackets.proofs.Heights.{opens, shuts}
 use Rattle.brackets.proofs.select.Statement.{statement}
@@ -35,8 +34,7 @@ abbrev μ-loop : tie.MeasureT-loop
 μ-loop tree i end k₀ left₀ k left = end - k
 
 select-byte-requires : tie.Need-select-byte-requires Inv-loop μ-loop
-unfolding byteExcess byteBit
-select-byte-requires c κs = let s = c .before .before in (s .pre .0, s .pre .1, refl)
+select-byte-requires c κs = c .before .pre
 
 mul-end : tie.Need-mul-end Inv-loop μ-loop
 mul-end c = omega arith
@@ -84,7 +82,7 @@ loop-again-2 c =
 returns-2 : tie.Need-returns-2 Inv-loop μ-loop
 returns-2 c =
     let a = c .before in
-    let s = a .before .before .before .before .before in
+    let s = a .before .before .before .before in
     let z : a .loop .k ≡ 8 * length (s .args .tree .now) = omega (arith, a .loop .inv .within) in
     absurd (omega (arith, rw z at (a .loop .inv .count), s .pre .1))
 

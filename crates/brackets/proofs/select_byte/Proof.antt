@@ -1,50 +1,35 @@
 -- `brackets::select_byte` meets its contract.
-use mathlib.Core.Path.{_≡_, refl, sym, ap, _∙_}
-use mathlib.Core.List.{List}
-use Prim.Native.Nat.{ℕ, _+_, _-_, _*_, _≤_, _<_}
+use mathlib.Core.Path.{_≡_}
+use Prim.Native.Nat.{ℕ, _+_, _-_, _*_}
 use native.Mathlib.Omega.{arith}
-use lib.ListN.{length, getD}
-use Rattle.refusal.specs.Conditions.{bitOf}
-use Rattle.brackets.specs.Searching.{opened, ones}
+use lib.ListN.{length}
 use Rattle.brackets.proofs.Searching.{opened-byte}
-use Rattle.brackets.proofs.Heights.{opened-none}
+use Rattle.brackets.proofs.Counting.{Passing, passed-bytes}
 use Rattle.brackets.proofs.select_byte.Statement.{statement}
 use Rattle.brackets.proofs.select_byte.Tie as tie
 
--- so many bytes are passed, and so many openings are still to pass
-record Passing (t : List ℕ) (i byte left : ℕ) : Type 0 where
-  within : byte ≤ length t
-  count : opened (bitOf t) (8 * byte) + left ≡ i
-
-pass : {t : List ℕ} {i byte left k : ℕ} → Passing t i byte left → byte < length t → k ≡ ones (getD t byte 0) 8 → k ≤ left → Passing t i (byte + 1) (left - k)
-pass {t} {i} {byte} P h e w =
-    let z : 8 * (byte + 1) ≡ 8 * byte + 8 = omega arith in
-    record { within = omega arith; count = rw z (omega (arith, opened-byte t byte 8 (omega arith), P .count)) }
-
 abbrev Inv-loop : tie.InvT-loop
-Inv-loop tree i all byte₀ left₀ byte left = Passing tree i byte left
+Inv-loop tree i byte₀ left₀ byte left = Passing tree i byte left
 
 abbrev μ-loop : tie.MeasureT-loop
-μ-loop tree i all byte₀ left₀ byte left = length tree - byte
+μ-loop tree i byte₀ left₀ byte left = length tree - byte
+
+pass-eights-requires : tie.Need-pass-eights-requires Inv-loop μ-loop
+pass-eights-requires c κs = c .before .pre .0
 
 loop-holds : tie.Need-loop-holds Inv-loop μ-loop
-loop-holds c = record { within = omega arith; count = omega (arith, opened-none (bitOf (c .before .args .tree .now))) }
+loop-holds c = record { within = c .pass-eights .ensures .0; count = c .pass-eights .ensures .1 }
 
-shared-slice-read-wide : tie.Need-shared-slice-read-wide Inv-loop μ-loop
-shared-slice-read-wide c = omega arith
-
-wide-requires : tie.Need-wide-requires Inv-loop μ-loop
-wide-requires c κs = tt
+shared-slice-read-openings-in : tie.Need-shared-slice-read-openings-in Inv-loop μ-loop
+shared-slice-read-openings-in c = omega arith
 
 openings-in-requires : tie.Need-openings-in-requires Inv-loop μ-loop
-openings-in-requires c κs =
-    let a = c .before .before .before in
-    (omega (arith, c .wide .ensures, c .before .shared-slice-known2 .given (a .loop .byte)), a .before .before .pre .2)
+openings-in-requires c κs = tt
 
 returns : tie.Need-returns Inv-loop μ-loop
 returns c =
-    let a = c .before .before .before .before .before in
-    (omega arith, a .loop .inv .count)
+    let i = c .before .before .before in
+    (i .loop-test .taken, i .before .loop .inv .count)
 
 add-byte : tie.Need-add-byte Inv-loop μ-loop
 add-byte c = omega arith
@@ -55,17 +40,19 @@ loop-less c = omega arith
 loop-again : tie.Need-loop-again Inv-loop μ-loop
 loop-again c =
     let o = c .before in
-    let w = o .before in
-    let a = w .before .before .before in
-    pass (a .loop .inv) (w .before .before .loop-test .taken) (o .openings-in .ensures ∙ ap (λ b. ones b 8) (w .wide .ensures)) (c .if1 .left)
+    let i = o .before .before in
+    let l = i .before in
+    let t = l .before .before .before .args .tree .now in
+    passed-bytes 1 (l .loop .inv) (omega (arith, i .loop-test .taken)) (omega (arith, o .openings-in .ensures, opened-byte t (l .loop .byte) 8 (omega arith))) (c .if1 .left)
 
 returns-2 : tie.Need-returns-2 Inv-loop μ-loop
 returns-2 c =
     let a = c .before in
-    let s = a .before .before in
+    let s = a .before .before .before in
     let z : a .loop .byte ≡ length (s .args .tree .now) = omega (arith, a .loop .inv .within) in
     absurd (omega (arith, rw z at (a .loop .inv .count), s .pre .1))
 
 pub select-byte-spec : {M : Type 1} → statement M
 select-byte-spec =
-    tie.close (tie.spec Inv-loop μ-loop loop-holds shared-slice-read-wide wide-requires openings-in-requires returns add-byte loop-less loop-again returns-2)
+    tie.close
+    (tie.spec Inv-loop μ-loop pass-eights-requires loop-holds shared-slice-read-openings-in openings-in-requires returns add-byte loop-less loop-again returns-2)
