@@ -1,5 +1,5 @@
 pub mod Answers
-pub mod Fills
+pub mod Clearing
 pub mod Invariants
 pub mod Settling
 pub mod Walking

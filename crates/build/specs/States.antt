@@ -1,8 +1,7 @@
 -- What the contracts of the private functions are written with: the code's values as those of the reuse steps.
 use mathlib.Core.Bool.{Bool, true, false}
-use mathlib.Core.List.{List}
-use Prim.Native.Nat.{ℕ, _+_, _≤_, _<_}
-use lib.ListN.{replicate}
+use mathlib.Core.List.{List, [], _∷_}
+use Prim.Native.Nat.{ℕ, zero, suc, _+_, _≤_, _<_}
 use Rattle.suffix.specs.Rows.{Tables}
 use Rattle.reuse.specs.Steps.{Progress, BuildState, SettledPair, settle}
 use Rattle.refusal.specs.Numbers.{numberOf}
@@ -20,9 +19,15 @@ pairOf u = record { progress = progressOf (u .state); match = u .matched; leftSm
 abbrev pub tablesOf : List ℕ → List ℕ → List ℕ → List ℕ → Tables
 tablesOf previous next previousMatch nextMatch = record { previous = previous; next = next; previousMatch = previousMatch; nextMatch = nextMatch }
 
--- n entries each, every one none, and every match 0
-abbrev pub cleared : ℕ → Tables
-cleared n = tablesOf (replicate n n) (replicate n n) (replicate n 0) (replicate n 0)
+-- t with v in every place from k on
+unfoldable pub clearedFrom : ℕ → ℕ → List ℕ → List ℕ
+clearedFrom k v [] = []
+clearedFrom zero v (x ∷ t) = v ∷ clearedFrom zero v t
+clearedFrom (suc k) v (x ∷ t) = x ∷ clearedFrom k v t
+
+-- tables for n letters with none and match 0 for every position from p on in previous, and from q on in next
+abbrev pub clearedTables : ℕ → ℕ → ℕ → Tables → Tables
+clearedTables n p q t = tablesOf (clearedFrom p n (t .previous)) (clearedFrom q n (t .next)) (clearedFrom p 0 (t .previousMatch)) (clearedFrom q 0 (t .nextMatch))
 
 abbrev pub buildState : State → Tables → BuildState
 buildState s t = record { progress = progressOf s; tables = t }
@@ -34,6 +39,7 @@ pub record Safe (n : ℕ) (s : Progress) (l r m : ℕ) : Type 0 where
   pub fits : r + m ≤ n
   pub top : s .reach ≤ n
   pub shift : r + m < s .reach → s .shift ≤ l
+  pub shifted : r + m < s .reach → 0 < s .shift
   pub few : s .comparisons ≤ n + r + r
 
 -- (l, r) is settled from m; or it is known that it has match m and that the suffix at r is the smaller

@@ -7,7 +7,7 @@ ghost use lib.ListN.{length, getD, set, replicate};
 ghost use Rattle.suffix.specs.Tree.{treeLength, treeBytes};
 ghost use Rattle.refusal.specs.Conditions.{buildRefusal};
 ghost use Rattle.reuse.specs.Steps.{scanFrom, afterRows};
-ghost use Rattle.build.specs.States.{progressOf, pairOf, tablesOf, cleared, buildState, Safe, settledFrom, verdictNumber};
+ghost use Rattle.build.specs.States.{progressOf, pairOf, tablesOf, clearedFrom, clearedTables, buildState, Safe, settledFrom, verdictNumber};
 ghost use Rattle.build.specs.Built.{lent, BuiltExactly};
 use refusal::Refusal;
 
@@ -172,7 +172,7 @@ fn set_bit(tree: &mut [u8], k: usize)
     tree[k / 8] = tree[k / 8] + weight;
 }
 
-// All rows, over tables and a tree that are cleared.
+// All rows, over a tree that is cleared. What they have not written in the tables is left as it is.
 fn build_rows(
     letters: &[u8],
     rows: usize,
@@ -183,10 +183,11 @@ fn build_rows(
     tree: &mut [u8],
 ) -> State
     requires { ⌜ (length (now letters) ≤ 1000000) × (rows ≤ length (now letters)) ⌝ }
-    requires { ⌜ tablesOf (now previous) (now next) (now «previous_match») (now «next_match») ≡ cleared (length (now letters)) ⌝ }
+    requires { ⌜ (length (now previous) ≡ length (now letters)) × (length (now next) ≡ length (now letters)) × (length (now «previous_match») ≡ length (now letters)) × (length (now «next_match») ≡ length (now letters)) ⌝ }
     requires { ⌜ now tree ≡ replicate (treeLength (length (now letters))) 0 ⌝ }
     ensures { λ s.
-        ⌜ buildState s (tablesOf (now (previous .exit)) (now (next .exit)) (now («previous_match» .exit)) (now («next_match» .exit)))
+        ⌜ buildState s
+        (clearedTables (length (now (letters .entry))) rows rows (tablesOf (now (previous .exit)) (now (next .exit)) (now («previous_match» .exit)) (now («next_match» .exit))))
         ≡ afterRows (now (letters .entry)) rows ⌝ }
     ensures { λ s. ⌜ now (tree .exit) ≡ treeBytes (now (letters .entry)) rows ⌝ }
     ensures { λ s. ⌜ s .rows ≡ rows ⌝ }
@@ -207,10 +208,13 @@ fn build_rows(
         comparisons: 0,
     };
     let mut bit = 0;
+    record_entry(previous, previous_match, 0, n, 0);
     'rows: loop {
         set_bit(tree, bit);
         bit += 1;
         let r = state.rows;
+        // pending
+        record_entry(next, next_match, r - 1, n, 0);
         if rows <= r {
             break 'rows;
         }
@@ -246,33 +250,38 @@ fn build_rows(
     state
 }
 
-fn fill(table: &mut [u32], value: usize)
-    requires { ⌜ value ≤ 1000000 ⌝ }
-    ensures { λ _. ⌜ now (table .exit) ≡ replicate (length (now (table .entry))) value ⌝ }
+// The value in every place from one on.
+fn clear_from(table: &mut [u32], from: usize, value: usize)
+    requires { ⌜ (from ≤ length (now table)) × (value ≤ 1000000) ⌝ }
+    ensures { λ _. ⌜ now (table .exit) ≡ clearedFrom from value (now (table .entry)) ⌝ }
 {
     let entry = value as u32;
-    let mut i = 0;
+    let mut i = from;
     while i < table.len() {
         table[i] = entry;
         i += 1;
     }
 }
 
-// Every entry is none, and every match 0.
+// None and match 0 for the positions of which the row is not done.
 fn clear_tables(
     n: usize,
+    rows: usize,
     previous: &mut [u32],
     next: &mut [u32],
     previous_match: &mut [u32],
     next_match: &mut [u32],
 )
-    requires { ⌜ (n ≤ 1000000) × (length (now previous) ≡ n) × (length (now next) ≡ n) × (length (now «previous_match») ≡ n) × (length (now «next_match») ≡ n) ⌝ }
-    ensures { λ _. ⌜ tablesOf (now (previous .exit)) (now (next .exit)) (now («previous_match» .exit)) (now («next_match» .exit)) ≡ cleared n ⌝ }
+    requires { ⌜ (n ≤ 1000000) × (rows ≤ n) ⌝ }
+    requires { ⌜ (length (now previous) ≡ n) × (length (now next) ≡ n) × (length (now «previous_match») ≡ n) × (length (now «next_match») ≡ n) ⌝ }
+    ensures { λ _.
+        ⌜ tablesOf (now (previous .exit)) (now (next .exit)) (now («previous_match» .exit)) (now («next_match» .exit))
+        ≡ clearedTables n rows rows (tablesOf (now (previous .entry)) (now (next .entry)) (now («previous_match» .entry)) (now («next_match» .entry))) ⌝ }
 {
-    fill(previous, n);
-    fill(next, n);
-    fill(previous_match, 0);
-    fill(next_match, 0);
+    clear_from(previous, rows, n);
+    clear_from(next, rows, n);
+    clear_from(previous_match, rows, 0);
+    clear_from(next_match, rows, 0);
 }
 
 fn clear_tree(tree: &mut [u8])
@@ -341,7 +350,6 @@ pub fn build(
     if let Verdict::Refused(refusal) = verdict {
         return Built::Refused(refusal);
     }
-    clear_tables(n, previous, next, previous_match, next_match);
     clear_tree(tree);
     let state = build_rows(
         letters,
@@ -352,6 +360,7 @@ pub fn build(
         next_match,
         tree,
     );
+    clear_tables(n, rows, previous, next, previous_match, next_match);
     let report = Report {
         rows: state.rows,
         comparisons: state.comparisons,

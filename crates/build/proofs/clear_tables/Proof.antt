@@ -5,8 +5,10 @@ use Rattle.build.proofs.clear_tables.Tie as tie
 
 returns : tie.Need-returns
 returns c =
-    let n = c .before .before .before .before .before .before .before .before .before .before .before .before .before .before .before .before .before .before .before .before .pre in
-    rw (c .before .before .before .before .before .before .before .before .before .before .before .before .before .before .fill .ensures, c .before .before .before .before .before .before .before .before .before .before .fill2 .ensures, c .before .before .before .before .before .before .fill3 .ensures, c .before .before .fill4 .ensures) (rw (n .1, n .2, n .3, n .4))
+    let d = c .before .before in
+    let b = d .before .before .before .before in
+    let q = b .before .before .before .before in
+    rw (q .before .before .before .before .clear-from .ensures, q .clear-from2 .ensures, b .clear-from3 .ensures, d .clear-from4 .ensures)
 
 pub clear-tables-spec : {M : Type 1} → statement M
 clear-tables-spec =

@@ -1,0 +1,99 @@
+-- Tables that are written row by row, and hold anything from there on: seen as cleared from there on.
+use mathlib.Core.Path.{_≡_, refl, sym, ap, ap₂, _∙_}
+use mathlib.Core.List.{List, [], _∷_}
+use Prim.Native.Nat.{ℕ, zero, suc, _+_, _≤_, _<_}
+use native.Mathlib.Numerals.{add-one}
+use native.Mathlib.Omega.{arith}
+use lib.ListN.{length, getD, set, replicate, length-set}
+use Rattle.suffix.specs.Rows.{Tables}
+use Rattle.reuse.specs.Steps.{recordPrevious, recordNext}
+use Rattle.build.specs.States.{tablesOf, clearedFrom, clearedTables}
+
+pub cleared-length : (k v : ℕ) (t : List ℕ) → length (clearedFrom k v t) ≡ length t
+unfolding clearedFrom
+cleared-length k v [] = refl
+cleared-length zero v (x ∷ t) = ap suc (cleared-length zero v t)
+cleared-length (suc k) v (x ∷ t) = ap suc (cleared-length k v t)
+
+-- no place is left, and every place is
+pub cleared-none : (v : ℕ) (t : List ℕ) → clearedFrom (length t) v t ≡ t
+unfolding clearedFrom
+cleared-none v [] = refl
+cleared-none v (x ∷ t) = ap (λ u. x ∷ u) (cleared-none v t)
+
+pub cleared-all : (v : ℕ) (t : List ℕ) → clearedFrom 0 v t ≡ replicate (length t) v
+unfolding clearedFrom
+cleared-all v [] = refl
+cleared-all v (x ∷ t) = ap (λ u. v ∷ u) (cleared-all v t)
+
+-- a place before k is read, and written
+pub cleared-get : (k v i : ℕ) (t : List ℕ) → i < k → getD (clearedFrom k v t) i 0 ≡ getD t i 0
+unfolding clearedFrom
+cleared-get k v i [] h = refl
+cleared-get zero v i (x ∷ t) h = absurd (omega arith)
+cleared-get (suc k) v zero (x ∷ t) h = refl
+cleared-get (suc k) v (suc i) (x ∷ t) h = cleared-get k v i t (omega arith)
+
+pub cleared-set : (k v i x : ℕ) (t : List ℕ) → i < k → clearedFrom k v (set t i x) ≡ set (clearedFrom k v t) i x
+unfolding clearedFrom
+cleared-set k v i x [] h = refl
+cleared-set zero v i x (z ∷ t) h = absurd (omega arith)
+cleared-set (suc k) v zero x (z ∷ t) h = refl
+cleared-set (suc k) v (suc i) x (z ∷ t) h = ap (λ u. z ∷ u) (cleared-set k v i x t (omega arith))
+
+-- place k is written: with any x, and with v
+pub cleared-more : (k v x : ℕ) (t : List ℕ) → clearedFrom (suc k) v (set t k x) ≡ set (clearedFrom k v t) k x
+unfolding clearedFrom
+cleared-more k v x [] = refl
+cleared-more zero v x (z ∷ t) = refl
+cleared-more (suc k) v x (z ∷ t) = ap (λ u. z ∷ u) (cleared-more k v x t)
+
+pub cleared-same : (k v : ℕ) (t : List ℕ) → clearedFrom (suc k) v (set t k v) ≡ clearedFrom k v t
+unfolding clearedFrom
+cleared-same k v [] = refl
+cleared-same zero v (z ∷ t) = refl
+cleared-same (suc k) v (z ∷ t) = ap (λ u. z ∷ u) (cleared-same k v t)
+
+-- ---- a table that is cleared from its place k on, up to place i so far
+
+pub record Clears (k i v : ℕ) (d₀ d : List ℕ) : Type 0 where
+  pub most : i ≤ length d₀
+  pub same : length d ≡ length d₀
+  pub is : clearedFrom i v d ≡ clearedFrom k v d₀
+
+pub clears-none : (k v : ℕ) (d : List ℕ) → k ≤ length d → Clears k k v d d
+clears-none k v d h = record { most = h; same = refl; is = refl }
+
+pub clears-more : {k i v : ℕ} {d₀ d : List ℕ} → Clears k i v d₀ d → i < length d₀ → Clears k (i + 1) v d₀ (set d i v)
+clears-more {k} {i} {v} {d₀} {d} c h = record { most = omega arith; same = length-set d i v ∙ c .same; is = rw (add-one i) (cleared-same i v d ∙ c .is) }
+
+pub clears-all : {k i v : ℕ} {d₀ d : List ℕ} → Clears k i v d₀ d → length d₀ ≤ i → d ≡ clearedFrom k v d₀
+clears-all {k} {i} {v} {d₀} {d} c h =
+    let z : i ≡ length d = omega (arith, c .most, c .same) in
+    sym (cleared-none v d) ∙ ap (λ j. clearedFrom j v d) (sym z) ∙ c .is
+
+-- ---- four tables
+
+module _ (n : ℕ) (t : Tables) where
+  -- next[l] and previous[r] are recorded; next[k] is left pending
+  pub next-recorded : (p q l r m : ℕ) → l < q → clearedTables n p q (recordNext t l r m) ≡ recordNext (clearedTables n p q t) l r m
+  unfolding recordNext
+  next-recorded p q l r m h = rw (cleared-set q n l r (t .next) h, cleared-set q 0 l m (t .nextMatch) h)
+
+  pub previous-recorded : (q r l m : ℕ) → clearedTables n (suc r) q (recordPrevious t r l m) ≡ recordPrevious (clearedTables n r q t) r l m
+  unfolding recordPrevious
+  previous-recorded q r l m = rw (cleared-more r n l (t .previous), cleared-more r 0 m (t .previousMatch))
+
+  pub next-pending : (p k : ℕ) → clearedTables n p (suc k) (recordNext t k n 0) ≡ clearedTables n p k t
+  unfolding recordNext
+  next-pending p k = rw (cleared-same k n (t .next), cleared-same k 0 (t .nextMatch))
+
+  pub previous-none : (q : ℕ) → clearedTables n 1 q (recordPrevious t 0 n 0) ≡ clearedTables n 0 q t
+  unfolding recordPrevious
+  previous-none q = rw (cleared-same 0 n (t .previous), cleared-same 0 0 (t .previousMatch))
+
+  -- nothing is recorded
+  pub all-cleared : length (t .previous) ≡ n → length (t .next) ≡ n → length (t .previousMatch) ≡ n → length (t .nextMatch) ≡ n
+      → clearedTables n 0 0 t ≡ tablesOf (replicate n n) (replicate n n) (replicate n 0) (replicate n 0)
+  all-cleared a b c d =
+      rw (cleared-all n (t .previous), cleared-all n (t .next), cleared-all 0 (t .previousMatch), cleared-all 0 (t .nextMatch), a, b, c, d)
