@@ -1,10 +1,10 @@
 -- Nearest smaller suffixes of an endless sequence: edges, chains, and the three cases of a match (document 004, lemmas 5 to 7).
-use mathlib.Core.Path.{_≡_, refl, sym, ap, _∙_}
-use mathlib.Core.Logic.{_≢_, _⊎_, inl, inr}
+use mathlib.Core.Path.{_≡_, ap, _∙_}
+use mathlib.Core.Logic.{_⊎_, inl, inr}
 use Prim.Native.Nat.{ℕ, zero, suc, _+_, _-_, _≤_, _<_}
 use native.Mathlib.Omega.{arith}
 use Rattle.suffix.proofs.Cases.{Tri, lt, eq, gt, tri, le-unless}
-use Rattle.suffix.proofs.Sequence.{Agree, Less, Match, agree-sym, agree-trans, agree-cut, irrefl, less-trans, asym, match-sym, match-unique, agree-match, less-match, match-letter, match-order}
+use Rattle.suffix.proofs.Sequence.{Agree, Less, Match, agree-sym, agree-trans, agree-cut, less-trans, asym, match-sym, match-letter}
 
 module _ (f : ℕ → ℕ) where
   -- l < r, and each suffix between is larger than both

@@ -1,24 +1,24 @@
 -- The laws that prove specs/Claims.antt.
 use mathlib.Core.Path.{_≡_, refl, sym, ap, _∙_}
 use mathlib.Core.Logic.{_≢_, _⊎_, inl, inr}
-use mathlib.Core.Bool.{Bool, true, false, true≢false}
+use mathlib.Core.Bool.{true, false, true≢false}
 use mathlib.Core.List.{List}
-use Prim.Native.Nat.{ℕ, suc, _+_, _-_, _≤_, _<_}
+use Prim.Native.Nat.{ℕ, suc, _+_, _≤_, _<_}
 use native.Mathlib.Omega.{arith}
 use native.Mathlib.Nat.{suc-inj}
 use lib.Dec.{ltb, leb·suc-suc}
-use lib.ListN.{length, getD, drop}
+use lib.ListN.{length, drop}
 use borrow.Author.Tests.{lt-ltb, le-ltb}
 use Rattle.suffix.specs.Search.{tabulate}
 use Rattle.suffix.specs.Order.{suffixLess, lce}
 use Rattle.suffix.specs.Nearest.{previous, next, previousMatch, nextMatch}
-use Rattle.suffix.specs.Rows.{previousAfter, nextAfter, previousMatchAfter, nextMatchAfter, tablesAfter, isPair}
-use Rattle.suffix.specs.Claims.{Ordered, SuffixesAreOrdered, ByLetters, LettersDecide, IsPrevious, IsNext, PreviousIsGreatest, NextIsLeast, LargerBetween, PairsAreEdges, PairsDoNotCross, PreviousIsOnTheChain, NextIsOnTheChain, MatchOfThree, MatchesOfThree, AllRowsGiveAllEntries, RowsSettleTheirOwn, LongestIsNext, RowsWriteTheTree, TreeHasTwoBitsARow}
+use Rattle.suffix.specs.Rows.{previousAfter, nextAfter, previousMatchAfter, nextMatchAfter, tablesAfter}
+use Rattle.suffix.specs.Claims.{SuffixesAreOrdered, LettersDecide, IsPrevious, IsNext, PreviousIsGreatest, NextIsLeast, LargerBetween, PairsAreEdges, PairsDoNotCross, PreviousIsOnTheChain, NextIsOnTheChain, MatchesOfThree, AllRowsGiveAllEntries, RowsSettleTheirOwn, LongestIsNext, RowsWriteTheTree, TreeHasTwoBitsARow}
 use Rattle.suffix.specs.Claims as claims
 use Rattle.suffix.proofs.Cases.{Tri, lt, eq, gt, tri, Same, same, other, same?, le-unless}
 use Rattle.suffix.proofs.Search.{tabulate-same}
 use Rattle.suffix.proofs.Sequence.{Less, Match, agree-sym, agree-match, asym}
-use Rattle.suffix.proofs.Edges.{Edge, PreviousAt, NoPrevious, NextAt, Chain, here, up, no-cross, prev-chain, edge-chain, chain-le, chain-over, next-edge, edge-prev, edge-next, match-below, match-above, match-equal, match-edge, below-prev}
+use Rattle.suffix.proofs.Edges.{Edge, PreviousAt, NextAt, Chain, here, up, no-cross, prev-chain, edge-chain, chain-over, next-edge, edge-prev, edge-next, match-below, match-above, match-equal, match-edge, below-prev}
 use Rattle.suffix.proofs.Order.{extended, extended-in, extended-out, lex-irreflexive, lex-transitive, lce-match, lce-is, total, less-true, less-false, less-from-true, less-at-match, agree-fits}
 use Rattle.suffix.proofs.Nearest.{PreviousCase, some, none, previous-case, previous-any, previous-is, previous-low, previous-all, previous-at, next-at, next-le, next-is, pair-edge, pair-edge-end, edge-pair}
 use Rattle.suffix.proofs.Rows.{nextMatch-none, previousAfter-in, previousMatchAfter-in, nextAfter-in, nextAfter-out, nextMatchAfter-in, nextMatchAfter-out, previousAfter-stays, previousMatchAfter-stays, nextAfter-stays, nextMatchAfter-stays}

@@ -1,9 +1,8 @@
 -- How many brackets are open at a position, by the chain of its previous entries.
 use mathlib.Core.Path.{_≡_, refl, sym, ap, _∙_}
-use mathlib.Core.Logic.{_≢_, _⊎_, inl, inr}
-use mathlib.Core.Bool.{Bool, true, false}
+use mathlib.Core.Bool.{Bool, false}
 use mathlib.Core.List.{List}
-use Prim.Native.Nat.{ℕ, zero, suc, _+_, _-_, _≤_, _<_}
+use Prim.Native.Nat.{ℕ, zero, suc, _+_, _≤_, _<_}
 use native.Mathlib.Omega.{arith}
 use lib.Dec.{eqb, leb}
 use lib.ListN.{length}
@@ -14,9 +13,9 @@ use Rattle.suffix.specs.Tree.{closedBy, unclosed}
 use Rattle.suffix.proofs.Cases.{Tri, lt, eq, gt, tri, Same, same, other, same?, le-unless}
 use Rattle.suffix.proofs.Search.{count-yes, count-no, count-stop, count-same}
 use Rattle.suffix.proofs.Sequence.{Less, asym, less-trans}
-use Rattle.suffix.proofs.Edges.{Edge, PreviousAt, NoPrevious, NextAt, Chain, here, up, chain-edge, chain-le, prev-edge, next-edge, prev-chain}
-use Rattle.suffix.proofs.Order.{extended, end-least}
-use Rattle.suffix.proofs.Nearest.{PreviousCase, some, none, previous-case, previous-is, previous-low, previous-all, next-at, next-le}
+use Rattle.suffix.proofs.Edges.{NextAt, Chain, here, up, chain-edge, prev-edge, next-edge}
+use Rattle.suffix.proofs.Order.{extended}
+use Rattle.suffix.proofs.Nearest.{PreviousCase, some, none, previous-case, previous-is, previous-all, next-at, next-le}
 
 -- the brackets that are open once i has opened, its own too
 abbrev pub level : List ℕ → ℕ → ℕ

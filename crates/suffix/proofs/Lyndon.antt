@@ -1,21 +1,18 @@
 -- The longest Lyndon word from i ends before next[i]: document 004, lemma 3, from its definition 1.
 use mathlib.Core.Path.{_≡_, refl, sym, ap, _∙_}
-use mathlib.Core.Logic.{_≢_, _⊎_, inl, inr}
-use mathlib.Core.Bool.{Bool, true, false, _&&_, true≢false}
+use mathlib.Core.Bool.{true, false, true≢false}
 use mathlib.Core.List.{List, [], _∷_}
 use Prim.Native.Nat.{ℕ, zero, suc, _+_, _-_, _≤_, _<_}
 use native.Mathlib.Omega.{arith}
-use lib.Dec.{ltb}
 use lib.ListN.{length, take, drop, length-take, length-drop}
-use borrow.Author.Tests.{lt-ltb, ltb-false}
-use Rattle.suffix.specs.Search.{greatestBelow, allBelow}
+use borrow.Author.Tests.{lt-ltb}
 use Rattle.suffix.specs.Order.{lexLess, suffixLess}
 use Rattle.suffix.specs.Nearest.{next}
 use Rattle.suffix.specs.Lyndon.{isLyndon, part, longestLyndon}
 use Rattle.suffix.proofs.Cases.{Tri, lt, eq, gt, tri, le-unless}
 use Rattle.suffix.proofs.Search.{Greatest, found, absent, greatest, all-true, all-false}
-use Rattle.suffix.proofs.Sequence.{Agree, Less, less-match}
-use Rattle.suffix.proofs.Edges.{Edge, NextAt, next-edge, unbordered}
+use Rattle.suffix.proofs.Sequence.{Less, less-match}
+use Rattle.suffix.proofs.Edges.{NextAt, next-edge, unbordered}
 use Rattle.suffix.proofs.Order.{extended, extended-in, extended-out, extended-drop, less-true, less-false}
 use Rattle.suffix.proofs.Nearest.{next-at, next-le}
 use Rattle.suffix.proofs.Examples

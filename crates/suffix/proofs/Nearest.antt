@@ -1,12 +1,11 @@
 -- previous and next name the nearest smaller suffixes.
-use mathlib.Core.Path.{_≡_, refl, sym, ap, _∙_}
+use mathlib.Core.Path.{_≡_, ap}
 use mathlib.Core.Logic.{_≢_, _⊎_, inl, inr}
-use mathlib.Core.Bool.{Bool, true, false}
+use mathlib.Core.Bool.{false}
 use mathlib.Core.List.{List}
-use Prim.Native.Nat.{ℕ, zero, suc, _+_, _-_, _≤_, _<_}
+use Prim.Native.Nat.{ℕ, suc, _-_, _≤_, _<_}
 use native.Mathlib.Omega.{arith}
 use lib.ListN.{length}
-use Rattle.suffix.specs.Search.{greatestBelow, leastFrom}
 use Rattle.suffix.specs.Order.{suffixLess}
 use Rattle.suffix.specs.Nearest.{previous, next}
 use Rattle.suffix.proofs.Cases.{Tri, lt, eq, gt, tri}

@@ -1,17 +1,17 @@
 -- The order and the match of a string's suffixes are those of an endless sequence: its letters raised by 1, then 0 for ever.
 use mathlib.Core.Path.{_≡_, refl, sym, ap, _∙_}
 use mathlib.Core.Logic.{_≢_, _⊎_, inl, inr}
-use mathlib.Core.Bool.{Bool, true, false, true≢false}
+use mathlib.Core.Bool.{true, false, true≢false}
 use mathlib.Core.List.{List, [], _∷_}
 use Prim.Native.Nat.{ℕ, zero, suc, _+_, _-_, _≤_, _<_}
 use native.Mathlib.Omega.{arith}
 use native.Mathlib.Nat.{suc-inj, suc-add}
-use lib.Dec.{eqb, ltb, leb·suc-suc}
+use lib.Dec.{ltb, leb·suc-suc}
 use lib.ListN.{length, getD, drop, length-drop}
 use borrow.Author.Tests.{lt-ltb, le-ltb, eq-eqb, ne-eqb, ltb-true}
 use Rattle.suffix.specs.Order.{lexLess, lcp, suffixLess, lce}
 use Rattle.suffix.proofs.Cases.{Same, same, other, same?, le-unless}
-use Rattle.suffix.proofs.Sequence.{Agree, Less, Match, asym, match-sym, match-unique, match-letter, match-order}
+use Rattle.suffix.proofs.Sequence.{Agree, Less, Match, match-sym, match-unique, match-letter, match-order}
 
 -- the letter at i raised by 1, and 0 from the end on
 abbrev pub extended : List ℕ → ℕ → ℕ

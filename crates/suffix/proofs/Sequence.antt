@@ -1,8 +1,8 @@
 -- The suffixes of an endless sequence f: agreement, order and match. A string becomes one by a least letter after its end
 -- (Order.antt), so no end has to be told apart here.
-use mathlib.Core.Path.{_≡_, refl, sym, ap, _∙_}
+use mathlib.Core.Path.{_≡_, sym, _∙_}
 use mathlib.Core.Logic.{_≢_, _⊎_, inl, inr}
-use Prim.Native.Nat.{ℕ, zero, suc, _+_, _-_, _≤_, _<_}
+use Prim.Native.Nat.{ℕ, _+_, _≤_, _<_}
 use native.Mathlib.Omega.{arith}
 use Rattle.suffix.proofs.Cases.{Tri, lt, eq, gt, tri, le-unless}
 

@@ -1,13 +1,12 @@
 -- What the rows write from left to right is the tree, by what hangs under what.
 use mathlib.Core.Path.{_≡_, refl, sym, ap, _∙_}
 use mathlib.Core.Bool.{Bool, true, false}
-use mathlib.Core.List.{List, [], _∷_, _++_, append-assoc, append-nil}
+use mathlib.Core.List.{List, _∷_, _++_, append-assoc, append-nil}
 use Prim.Native.Nat.{ℕ, zero, suc, _+_, _-_, _≤_, _<_, min}
 use native.Mathlib.Omega.{arith}
 use lib.ListN.{length, replicate, length-append, length-replicate}
-use Rattle.suffix.specs.Nearest.{previous, next}
+use Rattle.suffix.specs.Nearest.{next}
 use Rattle.suffix.specs.Tree.{Forest, parentheses, treeAfter, closedBy, unclosed, rowsWrite}
-use Rattle.suffix.proofs.Nearest.{next-at}
 use Rattle.suffix.proofs.Levels.{level, closed-by, level-none, level-is, level-next}
 use Rattle.suffix.proofs.Hanging.{Hung, nothing, node, forest-hung}
 

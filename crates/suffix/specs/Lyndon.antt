@@ -1,5 +1,5 @@
 -- Document 01, "Definitions": Lyndon words (document 004), and the longest from a position.
-use mathlib.Core.Bool.{Bool, true, false, _&&_}
+use mathlib.Core.Bool.{Bool, _&&_}
 use mathlib.Core.List.{List}
 use Prim.Native.Nat.{ℕ, suc, _-_}
 use lib.Dec.{ltb}

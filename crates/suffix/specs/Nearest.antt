@@ -1,5 +1,5 @@
 -- Document 01, "Definitions": the nearest smaller suffixes and their matches. "'None' is written n in both tables".
-use mathlib.Core.Bool.{Bool, true, false}
+use mathlib.Core.Bool.{true, false}
 use mathlib.Core.List.{List}
 use Prim.Native.Nat.{ℕ, suc, _-_}
 use lib.Dec.{eqb}
