@@ -1,7 +1,6 @@
 -- The numbers of the refusals, and the refused specimens of document 01, by computation.
 use mathlib.Core.Path.{_≡_, refl}
-use mathlib.Core.List.{List, [], _∷_, map}
-use Prim.Native.Nat.{ℕ}
+use mathlib.Core.List.{[], _∷_, map}
 use Rattle.suffix.specs.Search.{anyBelow, countBelow}
 use Rattle.refusal.specs.Numbers.{numberOf, lowestFrom, lowest}
 use Rattle.refusal.specs.Conditions.{byteBit, bitOf, spareBitSet, closedTooEarly, leftOpen, buildRefusal, readRefusal, questionRefusal, wordRefusal}
