@@ -1,28 +1,27 @@
 -- All rows: what the steps leave is what the definitions say, for every string and every number of rows.
 use mathlib.Core.Path.{_≡_, refl, sym, ap, _∙_}
-use mathlib.Core.Logic.{_≢_, _⊎_, inl, inr}
+use mathlib.Core.Logic.{_⊎_, inl, inr}
 use mathlib.Core.List.{List}
-use Prim.Native.Nat.{ℕ, zero, suc, _+_, _-_, _*_, _≤_, _<_}
+use Prim.Native.Nat.{ℕ, zero, suc, _+_, _-_, _≤_, _<_}
 use native.Mathlib.Omega.{arith}
-use lib.ListN.{length, getD, replicate, getD-replicate, length-replicate}
-use Rattle.suffix.specs.Search.{countBelow, tabulate}
-use Rattle.suffix.specs.Order.{lce}
-use Rattle.suffix.specs.Nearest.{previous, next}
+use lib.ListN.{length, getD, getD-replicate, length-replicate}
+use Rattle.suffix.specs.Search.{tabulate}
+use Rattle.suffix.specs.Nearest.{previous}
 use Rattle.suffix.specs.Rows.{Tables, previousAfter, previousMatchAfter, nextAfter, nextMatchAfter, tablesAfter, reach}
 use Rattle.suffix.specs.Tree.{unclosed}
 use Rattle.suffix.proofs.Cases.{Same, same, other, same?}
 use Rattle.suffix.proofs.Search.{tabulate-is}
 use Rattle.suffix.proofs.Sequence.{agree-none}
-use Rattle.suffix.proofs.Edges.{Edge, NoPrevious, edge-first}
+use Rattle.suffix.proofs.Edges.{edge-first}
 use Rattle.suffix.proofs.Order.{extended, lce-is}
-use Rattle.suffix.proofs.Nearest.{previous-none, next-at, edge-pair}
+use Rattle.suffix.proofs.Nearest.{previous-none, next-at}
 use Rattle.suffix.proofs.Rows.{previousAfter-in, previousAfter-out, previousMatchAfter-in, previousMatchAfter-out, previousMatch-none, nextAfter-out, nextMatchAfter-out}
 use Rattle.suffix.proofs.Reach.{reach-most, reach-least, reach-one}
 use Rattle.suffix.proofs.Levels.{level-is, level-none}
-use Rattle.reuse.specs.Steps.{BuildState, Walk, ended, advances, stateOf, rowStart, row, start, afterRows}
+use Rattle.reuse.specs.Steps.{BuildState, ended, advances, stateOf, rowStart, row, start, afterRows}
 use Rattle.reuse.specs.Claims.{Exact}
-use Rattle.reuse.proofs.Settle.{Filled, Last, unscanned, scanned, LastPair, last-lower, last-fits}
-use Rattle.reuse.proofs.Row.{Sizes, Covered, Done, Holds, at-asked, Ended, advances-end}
+use Rattle.reuse.proofs.Settle.{Filled, Last, unscanned, scanned, last-lower, last-fits}
+use Rattle.reuse.proofs.Row.{Sizes, Done, Holds, at-asked, Ended, advances-end}
 
 -- ---- the first row, and a further row
 

@@ -8,7 +8,7 @@ use native.Mathlib.Omega.{arith}
 use lib.ListN.{length, getD, set, length-set}
 use lib.Seq.{getD-set-same, getD-set-other}
 use Rattle.suffix.specs.Order.{lce}
-use Rattle.suffix.specs.Nearest.{previous, next, previousMatch, nextMatch}
+use Rattle.suffix.specs.Nearest.{previous, next, previousMatch}
 use Rattle.suffix.specs.Rows.{Tables, previousAfter, previousMatchAfter, nextAfter, nextMatchAfter}
 use Rattle.suffix.specs.Tree.{unclosed}
 use Rattle.suffix.proofs.Cases.{Tri, lt, eq, gt, tri, Same, same, other, same?}

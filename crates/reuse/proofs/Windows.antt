@@ -1,5 +1,5 @@
 -- What the steps take from an earlier pair: document 004, section 5.
-use mathlib.Core.Path.{_≡_, refl, sym, ap, _∙_}
+use mathlib.Core.Path.{_≡_, sym, ap, _∙_}
 use Prim.Native.Nat.{ℕ, _+_, _-_, _≤_, _<_}
 use native.Mathlib.Omega.{arith}
 use Rattle.suffix.proofs.Cases.{le-unless}
