@@ -1,6 +1,6 @@
 -- Document 01, "The tree": "A constant table for all 256 byte values holds the signed sum of that byte's brackets (+1 open, −1 close,
 -- lowest bit first) and the lowest running sum, the empty start included."
-use mathlib.Core.Bool.{Bool, true, false}
+use mathlib.Core.Bool.{true, false}
 use mathlib.Core.List.{List, [], _∷_}
 use Prim.Native.Nat.{ℕ, zero, suc}
 use lib.IntN.{ℤ, pos, negsuc, _+ℤ_}
