@@ -7,7 +7,6 @@ use native.Mathlib.Omega.{arith}
 use lib.Dec.{eqb}
 use lib.ListN.{length, getD}
 use lib.Seq.{ext-getD}
-use borrow.Author.Tests.{eq-eqb}
 use Rattle.suffix.specs.Search.{sumBelow, tabulate}
 use Rattle.suffix.specs.Tree.{byteOf}
 use Rattle.suffix.proofs.Search.{tabulate-entry, sum-same}

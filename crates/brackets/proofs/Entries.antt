@@ -1,16 +1,15 @@
 -- The tables of a balanced tree, entry by entry.
-use mathlib.Core.Path.{_≡_, refl, sym, ap, _∙_}
-use mathlib.Core.Bool.{Bool, true, false}
+use mathlib.Core.Path.{_≡_, sym, _∙_}
+use mathlib.Core.Bool.{Bool}
 use mathlib.Core.List.{List}
-use Prim.Native.Nat.{ℕ, suc, _+_, _-_, _*_, _≤_, _<_}
+use Prim.Native.Nat.{ℕ, _*_, _≤_, _<_}
 use native.Mathlib.Omega.{arith}
 use lib.ListN.{length, getD}
 use lib.Seq.{ext-getD}
-use Rattle.suffix.specs.Tree.{Forest}
 use Rattle.refusal.specs.Conditions.{bitOf}
-use Rattle.brackets.specs.Shape.{size, parents, ends, forestsFrom, first, shapeOf, previousTable, nextTable}
+use Rattle.brackets.specs.Shape.{size, shapeOf, previousTable, nextTable}
 use Rattle.brackets.specs.Searching.{opened}
-use Rattle.brackets.proofs.Heights.{opened-none, opened-grows, Entry, Enclosed, by, root, entry-one}
+use Rattle.brackets.proofs.Heights.{opened-grows, Entry, Enclosed, by, root, entry-one}
 use Rattle.brackets.proofs.Shapes.{Laid, laid-end, entries, parents-length, ends-length}
 use Rattle.brackets.proofs.Parsing.{balanced-laid}
 use Rattle.brackets.proofs.Reading.{Balanced, Reading, reading-end}

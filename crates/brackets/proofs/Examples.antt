@@ -1,13 +1,11 @@
 -- The document's examples, computed by the definitions.
 use mathlib.Core.Path.{_≡_, refl}
-use mathlib.Core.Bool.{Bool, true, false}
-use mathlib.Core.List.{List, [], _∷_}
-use Prim.Native.Nat.{ℕ}
+use mathlib.Core.List.{[], _∷_}
 use Rattle.suffix.specs.Search.{leastFrom, anyBelow, countBelow}
 use Rattle.refusal.specs.Numbers.{lowestFrom, lowest}
 use Rattle.refusal.specs.Conditions.{byteBit, bitOf, spareBitSet, closedTooEarly, leftOpen, treeRefusal, questionRefusal}
 use Rattle.brackets.specs.Shape.{forestsFrom, shapeOf, previousTable, nextTable}
-use Rattle.brackets.specs.Answers.{Figures, value, refused, placeOf, previousAnswer, nextAnswer, placeAnswer}
+use Rattle.brackets.specs.Answers.{value, refused, placeOf, previousAnswer, nextAnswer, placeAnswer}
 
 -- M9, M10, M11, the tree of banana, and that of its first four rows, which is a tree of 4 positions and not of 6
 verdicts :

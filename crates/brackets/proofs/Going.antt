@@ -1,16 +1,16 @@
 -- What holds while a search goes on, or back, by bits or by whole bytes.
-use mathlib.Core.Path.{_≡_, refl, sym, ap, _∙_}
+use mathlib.Core.Path.{_≡_, refl, sym, _∙_}
 use mathlib.Core.Logic.{_≢_}
 use mathlib.Core.Bool.{Bool, true, false, true≢false, false≢true}
 use mathlib.Core.List.{List}
-use Prim.Native.Nat.{ℕ, suc, _+_, _-_, _*_, _/_, _%_, _≤_, _<_, min, max}
+use Prim.Native.Nat.{ℕ, _+_, _-_, _*_, _/_, _≤_, _<_, min, max}
 use native.Mathlib.Omega.{arith}
-use lib.IntN.{ℤ, pos, negsuc}
+use lib.IntN.{ℤ, pos}
 use lib.ListN.{length, getD}
 use lib.Signed.{mag}
 use borrow.Author.Tests.{ltb-false, ltb-true}
 use Rattle.refusal.specs.Conditions.{bitOf}
-use Rattle.brackets.specs.Searching.{opened, Passed, Fell, Reached, passed, fell, isMinus, Searched, ByteSearched, passedFrom, stepAt, stepSum, hasEight, ones, dip, stopsAt, passedSum, Live, Ready}
+use Rattle.brackets.specs.Searching.{Passed, Reached, passed, fell, isMinus, Searched, ByteSearched, passedFrom, stepAt, stepSum, hasEight, ones, dip, stopsAt, passedSum, Live, Ready}
 use Rattle.brackets.proofs.Searching.{passed-none, passed-on, reached-on, passed-small, step-reached, byte-forward, byte-back}
 
 -- at lies on the way from a to e, which lies in the tree

@@ -1,11 +1,10 @@
 -- Bits as brackets: how many are open after k of them, by counting the openings.
 use mathlib.Core.Path.{_≡_, refl, sym, ap, _∙_}
-use mathlib.Core.Logic.{_≢_, _⊎_, inl, inr}
-use mathlib.Core.Bool.{Bool, true, false, not, true≢false}
-use Prim.Native.Nat.{ℕ, zero, suc, _+_, _-_, _*_, _≤_, _<_}
+use mathlib.Core.Bool.{Bool, true, false, not}
+use Prim.Native.Nat.{ℕ, zero, suc, _+_, _≤_, _<_}
 use native.Mathlib.Omega.{arith}
 use Rattle.suffix.specs.Search.{countBelow}
-use Rattle.suffix.proofs.Cases.{Tri, lt, eq, gt, tri, Same, same, other, same?, Test, holds, fails, test, le-unless}
+use Rattle.suffix.proofs.Cases.{Same, same, other, same?, Test, holds, fails, test, le-unless}
 use Rattle.suffix.proofs.Search.{count-yes, count-no}
 use Rattle.brackets.specs.Searching.{opened, Above, OneBelow}
 

@@ -1,22 +1,20 @@
 -- The claims of specs/Claims.antt, each proved.
 use mathlib.Core.Path.{_≡_, refl, sym, ap, _∙_}
-use mathlib.Core.Logic.{_≢_}
-use mathlib.Core.Bool.{Bool, true, false}
+use mathlib.Core.Bool.{Bool, false}
 use mathlib.Core.List.{List, [], _∷_}
-use Prim.Native.Nat.{ℕ, zero, suc, _+_, _-_, _*_, _/_, _≤_, _<_}
+use Prim.Native.Nat.{ℕ, zero, suc, _+_, _*_, _≤_, _<_}
 use native.Mathlib.Omega.{arith}
 use lib.Dec.{eqb}
 use lib.ListN.{length, getD}
 use lib.Seq.{ext-getD}
-use borrow.Author.Tests.{eq-eqb, eqb-true, eqb-false}
+use borrow.Author.Tests.{eqb-true, eqb-false}
 use Rattle.suffix.specs.Search.{tabulate}
 use Rattle.suffix.specs.Nearest.{previous, next}
-use Rattle.suffix.specs.Rows.{previousAfter, nextAfter}
-use Rattle.suffix.specs.Tree.{Forest, parentheses, byteOf, treeLength, forestAfter, treeAfter, treeBytes}
+use Rattle.suffix.specs.Tree.{parentheses, byteOf, treeLength, forestAfter, treeAfter, treeBytes}
 use Rattle.suffix.proofs.Cases.{Tri, lt, eq, gt, tri, Test, holds, fails, test, le-unless}
-use Rattle.suffix.proofs.Search.{tabulate-length, tabulate-entry, tabulate-same, tabulate-is}
+use Rattle.suffix.proofs.Search.{tabulate-length, tabulate-entry, tabulate-same}
 use Rattle.suffix.proofs.Written.{tree-length}
-use Rattle.refusal.specs.Conditions.{bitOf, spareBitSet, closedTooEarly, leftOpen, treeRefusal, questionRefusal}
+use Rattle.refusal.specs.Conditions.{bitOf, treeRefusal, questionRefusal}
 use Rattle.brackets.specs.Shape.{size, parents, ends, IsTreeOf, shapeOf, previousTable, nextTable}
 use Rattle.brackets.specs.Answers.{value, flawNumber, previousAnswer, nextAnswer}
 use Rattle.brackets.specs.Claims.{
@@ -32,7 +30,7 @@ use Rattle.brackets.specs.Claims.{
   QuestionsOfTheFinished,
 }
 use Rattle.brackets.specs.Searching.{opened}
-use Rattle.brackets.proofs.Heights.{opened-none, shuts, Entry, entry-one}
+use Rattle.brackets.proofs.Heights.{opened-none, shuts, entry-one}
 use Rattle.brackets.proofs.Shapes.{Laid, laid-end, laid-above, entries, parents-length, ends-length}
 use Rattle.brackets.proofs.Parsing.{laid-from, laid-bit, ends-tell}
 use Rattle.brackets.proofs.Reading.{Balanced}

@@ -1,10 +1,9 @@
 -- A search in three legs: by bits to a byte's edge, by whole bytes, and by bits again.
-use mathlib.Core.Path.{_≡_, refl, sym, ap, _∙_}
+use mathlib.Core.Path.{_≡_, refl, sym, _∙_}
 use mathlib.Core.Bool.{Bool, true, false, not, true≢false, false≢true}
-use mathlib.Core.List.{List}
-use Prim.Native.Nat.{ℕ, _+_, _-_, _*_, _/_, _%_, _≤_, _<_, min, max}
+use Prim.Native.Nat.{ℕ, _*_, _%_, _≤_, min, max}
 use native.Mathlib.Omega.{arith}
-use lib.IntN.{ℤ, pos, negsuc}
+use lib.IntN.{ℤ, pos}
 use lib.Signed.{mag}
 use borrow.Author.Tests.{ltb-false}
 use Rattle.brackets.specs.Searching.{Passed, Fell, Reached, passed, fell, isMinus, Searched, ByteSearched, byteEdge, isPast, Ready}

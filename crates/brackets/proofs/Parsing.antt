@@ -1,7 +1,6 @@
 -- Balanced brackets have a shape, the shape has these brackets, and its ends tell it.
 use mathlib.Core.Path.{_≡_, refl, sym, ap, ap₂, _∙_}
-use mathlib.Core.Logic.{_≢_, _⊎_, inl, inr}
-use mathlib.Core.Bool.{Bool, true, false, true≢false}
+use mathlib.Core.Bool.{Bool, true, false}
 use mathlib.Core.List.{List, [], _∷_, _++_}
 use Prim.Native.Nat.{ℕ, zero, suc, _+_, _-_, _*_, _≤_, _<_}
 use native.Mathlib.Omega.{arith}
@@ -9,8 +8,8 @@ use lib.ListN.{length, getD, take, drop, length-append, List·getD-append}
 use lib.Seq.{getD-append-add, take-at, drop-at}
 use Rattle.suffix.specs.Search.{countBelow}
 use Rattle.suffix.specs.Tree.{Forest, none, tree, parentheses}
-use Rattle.suffix.proofs.Cases.{Tri, lt, eq, gt, tri, Same, same, other, same?, Test, holds, fails, test}
-use Rattle.brackets.specs.Shape.{size, parents, ends, grow, forestsFrom, first}
+use Rattle.suffix.proofs.Cases.{Tri, lt, eq, gt, tri, Test, holds, fails, test}
+use Rattle.brackets.specs.Shape.{size, ends, grow, forestsFrom, first}
 use Rattle.brackets.specs.Searching.{opened, Above}
 use Rattle.brackets.proofs.Heights.{opens, shuts}
 use Rattle.brackets.proofs.Shapes.{Laid, empty, node, laid-end, ends-length}

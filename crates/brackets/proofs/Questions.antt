@@ -1,28 +1,26 @@
 -- What the searches find, put to the tables of a tree.
 use mathlib.Core.Path.{_≡_, refl, sym, ap, _∙_}
-use mathlib.Core.Logic.{_≢_}
-use mathlib.Core.Bool.{Bool, true, false, _&&_, true≢false, false≢true}
+use mathlib.Core.Bool.{true, false, _&&_, true≢false}
 use mathlib.Core.List.{List}
-use Prim.Native.Nat.{ℕ, zero, suc, _+_, _-_, _*_, _/_, _≤_, _<_, min, max}
+use Prim.Native.Nat.{ℕ, suc, _+_, _-_, _*_, _/_, _≤_, _<_}
 use native.Mathlib.Omega.{arith}
 use lib.Dec.{eqb}
-use lib.IntN.{ℤ, pos}
+use lib.IntN.{ℤ}
 use lib.ListN.{length, getD}
 use borrow.Author.Tests.{eq-eqb, eqb-true, eqb-false}
-use Rattle.suffix.specs.Search.{leastFrom}
 use Rattle.suffix.specs.Tree.{treeLength}
 use Rattle.suffix.proofs.Cases.{Tri, lt, eq, gt, tri, Test, holds, fails, test, le-unless, both-true}
 use Rattle.suffix.proofs.Search.{Least, found, absent, least}
 use Rattle.refusal.specs.Conditions.{bitOf, openings, questionRefusal}
 use Rattle.brackets.specs.Shape.{previousTable, nextTable}
 use Rattle.brackets.specs.Answers.{value, flawNumber, placeOf, placeAnswer}
-use Rattle.brackets.specs.Searching.{opened, OneBelow, Fell, isMinus, Searched, Ready}
-use Rattle.brackets.proofs.Heights.{opens, shuts, opened-grows, opening-one, Entry, ClosedAt, Encloses, Enclosed, by, root, closed-once, enclosed-once}
+use Rattle.brackets.specs.Searching.{opened, Fell, isMinus, Searched}
+use Rattle.brackets.proofs.Heights.{opens, shuts, opened-grows, opening-one, Entry, ClosedAt, Encloses, by, root, closed-once, enclosed-once}
 use Rattle.brackets.proofs.Reading.{Balanced}
 use Rattle.brackets.proofs.Entries.{table-entry}
 use Rattle.brackets.proofs.Answering.{answered-told}
 use Rattle.brackets.proofs.Legs.{not-fallen, has-fallen}
-use Rattle.brackets.proofs.Conditions.{Sound, sound, question-1, question-3, question-5, question-flaw}
+use Rattle.brackets.proofs.Conditions.{sound, question-1, question-3, question-5, question-flaw}
 
 -- a question that is not refused
 pub record Allowed (n : ℕ) (t : List ℕ) (i : ℕ) : Type 0 where

@@ -1,15 +1,14 @@
 -- Reading the brackets from left to right, with the previous entries as the stack of what is open.
 use mathlib.Core.Path.{_≡_, refl, sym, ap, _∙_}
-use mathlib.Core.Logic.{_≢_, _⊎_, inl, inr}
+use mathlib.Core.Logic.{_≢_}
 use mathlib.Core.Bool.{Bool, true, false, true≢false}
 use mathlib.Core.List.{List}
-use Prim.Native.Nat.{ℕ, zero, suc, _+_, _-_, _*_, _≤_, _<_}
+use Prim.Native.Nat.{ℕ, suc, _*_, _≤_, _<_}
 use native.Mathlib.Omega.{arith}
 use lib.ListN.{length, getD, set, length-set}
 use lib.Seq.{getD-set-same, getD-set-other}
-use Rattle.suffix.specs.Search.{countBelow}
 use Rattle.suffix.proofs.Cases.{Tri, lt, eq, gt, tri, Same, same, other, same?}
-use Rattle.brackets.specs.Searching.{opened, Above, OneBelow}
+use Rattle.brackets.specs.Searching.{opened, Above}
 use Rattle.brackets.proofs.Heights.{opened-none, opens, shuts, opened-grows, opening, opening-one, Opening, ClosedAt, Encloses, Enclosed, by, root, Entry}
 
 -- no first bits of the m hold more closings than openings, and all are closed

@@ -1,17 +1,15 @@
 -- The shape of the tree after R rows: its size and its two tables.
-use mathlib.Core.Path.{_≡_, refl, sym, ap, ap₂, _∙_}
-use mathlib.Core.Logic.{_≢_}
-use mathlib.Core.Bool.{Bool, true, false, _&&_}
-use mathlib.Core.List.{List, [], _∷_, _++_}
-use Prim.Native.Nat.{ℕ, zero, suc, _+_, _-_, _*_, _≤_, _<_, min}
+use mathlib.Core.Path.{_≡_, refl, sym, ap, _∙_}
+use mathlib.Core.List.{List, _++_}
+use Prim.Native.Nat.{ℕ, zero, suc, _+_, _≤_, _<_, min}
 use native.Mathlib.Omega.{arith}
-use lib.Dec.{eqb, ltb}
+use lib.Dec.{eqb}
 use lib.ListN.{length}
 use borrow.Author.Tests.{eq-eqb, ne-eqb, eqb-true, lt-ltb, le-ltb}
 use Rattle.suffix.specs.Search.{tabulateFrom, tabulate}
 use Rattle.suffix.specs.Nearest.{previous, next}
 use Rattle.suffix.specs.Rows.{previousAfter, nextSettled, nextAfter}
-use Rattle.suffix.specs.Tree.{Forest, none, tree, forestAfter}
+use Rattle.suffix.specs.Tree.{Forest, forestAfter}
 use Rattle.suffix.proofs.Cases.{Tri, lt, eq, gt, tri, Test, holds, fails, test}
 use Rattle.suffix.proofs.Search.{tabulate-same}
 use Rattle.suffix.proofs.Nearest.{next-le}

@@ -1,18 +1,18 @@
 -- The brackets of a forest, laid out from a bit on: its two tables, entry by entry; and that balanced brackets have a shape.
-use mathlib.Core.Path.{_≡_, refl, sym, ap, ap₂, _∙_}
-use mathlib.Core.Logic.{_≢_, _⊎_, inl, inr}
-use mathlib.Core.Bool.{Bool, true, false, true≢false}
-use mathlib.Core.List.{List, [], _∷_, _++_}
+use mathlib.Core.Path.{_≡_, refl, ap, _∙_}
+use mathlib.Core.Logic.{_⊎_, inl, inr}
+use mathlib.Core.Bool.{Bool, true, false}
+use mathlib.Core.List.{List, _++_}
 use Prim.Native.Nat.{ℕ, zero, suc, _+_, _-_, _*_, _≤_, _<_}
 use native.Mathlib.Omega.{arith}
 use lib.ListN.{length, getD, length-append, List·getD-append}
 use lib.Seq.{getD-append-add}
 use Rattle.suffix.specs.Search.{countBelow}
-use Rattle.suffix.specs.Tree.{Forest, none, tree, parentheses}
-use Rattle.suffix.proofs.Cases.{Tri, lt, eq, gt, tri, Same, same, other, same?, Test, holds, fails, test}
-use Rattle.brackets.specs.Shape.{size, parents, ends, grow, forestsFrom, first}
-use Rattle.brackets.specs.Searching.{opened, Above, OneBelow}
-use Rattle.brackets.proofs.Heights.{opens, shuts, ClosedAt, Encloses, Opening, Entry, by, root}
+use Rattle.suffix.specs.Tree.{Forest, none, tree}
+use Rattle.suffix.proofs.Cases.{Tri, lt, eq, gt, tri, Same, same, other, same?}
+use Rattle.brackets.specs.Shape.{size, parents, ends}
+use Rattle.brackets.specs.Searching.{opened, Above}
+use Rattle.brackets.proofs.Heights.{opens, shuts, ClosedAt, Encloses, Entry, by, root}
 
 pub parents-length : (f : Forest) (i p : ℕ) → length (parents f i p) ≡ size f
 parents-length none i p = refl

@@ -1,7 +1,7 @@
 -- Document 01, "The tree" and "Who can cause which refusal": what reading a tree and questions put to it answer, and what reading
 -- leaves in the lent tables.
 use mathlib.Core.Path.{_≡_}
-use mathlib.Core.Bool.{Bool, true, false, _&&_}
+use mathlib.Core.Bool.{true, false, _&&_}
 use mathlib.Core.List.{List, [], _∷_}
 use Prim.Native.Nat.{ℕ, _*_}
 use lib.Dec.{eqb}

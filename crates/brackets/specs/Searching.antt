@@ -2,13 +2,12 @@
 use mathlib.Core.Path.{_≡_}
 use mathlib.Core.Logic.{_≢_}
 use mathlib.Core.Bool.{Bool, true, false, not}
-use mathlib.Core.List.{List}
-use Prim.Native.Nat.{ℕ, zero, suc, _+_, _-_, _*_, _/_, _%_, _≤_, _<_, min, max}
+use Prim.Native.Nat.{ℕ, zero, suc, _+_, _-_, _*_, _/_, _%_, _≤_, min, max}
 use lib.Dec.{ltb}
 use lib.IntN.{ℤ, pos, negsuc}
 use lib.Signed.{mag}
 use Rattle.suffix.specs.Search.{countBelow, maximumBelow}
-use Rattle.refusal.specs.Conditions.{byteBit, bitOf}
+use Rattle.refusal.specs.Conditions.{byteBit}
 
 -- the openings among the first k bits
 abbrev pub opened : (ℕ → Bool) → ℕ → ℕ

@@ -1,5 +1,5 @@
 -- `brackets::bit` meets its contract.
-use mathlib.Core.Path.{_≡_, refl}
+use mathlib.Core.Path.{refl}
 use borrow.Author.Needs.{needs}
 use Rattle.refusal.specs.Conditions.{byteBit}
 use Rattle.brackets.proofs.bit.Statement.{statement}

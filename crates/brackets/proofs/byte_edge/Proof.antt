@@ -1,5 +1,5 @@
 -- `brackets::byte_edge` meets its contract.
-use mathlib.Core.Path.{_≡_, sym, ap}
+use mathlib.Core.Path.{sym, ap}
 use borrow.Author.Needs.{needs}
 use Rattle.brackets.specs.Searching.{byteEdge}
 use Rattle.brackets.proofs.byte_edge.Statement.{statement}

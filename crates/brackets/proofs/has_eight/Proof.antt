@@ -1,5 +1,5 @@
 -- `brackets::has_eight` meets its contract.
-use mathlib.Core.Path.{_≡_, sym, ap}
+use mathlib.Core.Path.{sym, ap}
 use native.Mathlib.Omega.{arith}
 use Rattle.brackets.specs.Searching.{hasEight}
 use Rattle.brackets.proofs.has_eight.Statement.{statement}

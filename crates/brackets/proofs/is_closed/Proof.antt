@@ -1,5 +1,5 @@
 -- `brackets::is_closed` meets its contract.
-use mathlib.Core.Path.{_≡_, ap}
+use mathlib.Core.Path.{ap}
 use lib.IntN.{pos}
 use lib.Signed.{ltZ}
 use Rattle.brackets.proofs.Signed.{plain}

@@ -1,5 +1,5 @@
 -- `brackets::is_past` meets its contract.
-use mathlib.Core.Path.{_≡_, sym, ap}
+use mathlib.Core.Path.{sym, ap}
 use Rattle.brackets.specs.Searching.{isPast}
 use Rattle.brackets.proofs.is_past.Statement.{statement}
 use Rattle.brackets.proofs.is_past.Tie as tie

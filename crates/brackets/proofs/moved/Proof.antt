@@ -1,5 +1,5 @@
 -- `brackets::moved` meets its contract.
-use mathlib.Core.Path.{_≡_, refl, sym, ap}
+use mathlib.Core.Path.{sym, ap}
 use native.Mathlib.Omega.{arith}
 use borrow.Author.Needs.{needs}
 use Rattle.brackets.specs.Searching.{stepAt}

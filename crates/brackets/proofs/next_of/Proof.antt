@@ -1,17 +1,14 @@
 -- `brackets::next_of` meets its contract.
 use mathlib.Core.Path.{_≡_, refl, sym, ap, _∙_}
-use mathlib.Core.Bool.{Bool, true, false, true≢false, false≢true}
-use Prim.Native.Nat.{ℕ, _+_, _-_, _*_, _/_, _≤_}
+use mathlib.Core.Bool.{false≢true}
+use Prim.Native.Nat.{_+_, _-_, _/_, _≤_}
 use native.Mathlib.Omega.{arith}
 use borrow.Author.Needs.{needs}
-use lib.ListN.{length, getD}
-use Rattle.suffix.specs.Tree.{treeLength}
-use Rattle.refusal.specs.Conditions.{bitOf, questionRefusal}
-use Rattle.brackets.specs.Shape.{previousTable, nextTable}
+use lib.ListN.{getD}
+use Rattle.refusal.specs.Conditions.{questionRefusal}
+use Rattle.brackets.specs.Shape.{nextTable}
 use Rattle.brackets.specs.Answers.{value, figuresOf, placeOf, placeAnswer, nextAnswer}
-use Rattle.brackets.specs.Searching.{Searched}
 use Rattle.brackets.proofs.Answering.{answered-value, refused-alike}
-use Rattle.brackets.proofs.Legs.{searched-small}
 use Rattle.brackets.proofs.Questions.{Placed, placed, next-found}
 use Rattle.brackets.proofs.next_of.Statement.{statement}
 use Rattle.brackets.proofs.next_of.Tie as tie

@@ -1,11 +1,9 @@
 -- `brackets::openings_in_eight` meets its contract.
-use mathlib.Core.Path.{_≡_, ap, _∙_}
+use mathlib.Core.Path.{_≡_}
 use Prim.Native.Nat.{_+_, _*_}
 use native.Mathlib.Omega.{arith}
 use borrow.Author.Needs.{needs}
 use lib.Count.{ones-cat, ones-le}
-use Rattle.refusal.specs.Conditions.{bitOf}
-use Rattle.brackets.specs.Searching.{opened}
 use Rattle.brackets.proofs.openings_in_eight.Statement.{statement}
 use Rattle.brackets.proofs.openings_in_eight.Tie as tie
 

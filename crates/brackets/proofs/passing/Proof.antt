@@ -1,7 +1,6 @@
 -- `brackets::passing` meets its contract.
-use mathlib.Core.Path.{_≡_, sym, ap}
+use mathlib.Core.Path.{sym, ap}
 use native.Mathlib.Omega.{arith}
-use borrow.Author.Needs.{needs}
 use Rattle.brackets.specs.Searching.{passedFrom}
 use Rattle.brackets.proofs.passing.Statement.{statement}
 use Rattle.brackets.proofs.passing.Tie as tie

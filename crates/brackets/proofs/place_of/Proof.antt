@@ -1,11 +1,9 @@
 -- `brackets::place_of` meets its contract.
-use mathlib.Core.Path.{_≡_, refl, sym, ap, _∙_}
+use mathlib.Core.Path.{sym, ap, _∙_}
 use native.Mathlib.Omega.{arith}
 use borrow.Author.Needs.{needs}
-use lib.ListN.{length}
-use Rattle.suffix.specs.Tree.{treeLength}
 use Rattle.refusal.specs.Conditions.{questionRefusal}
-use Rattle.brackets.specs.Answers.{placeAnswer, placeOf, verdictNumber, Figures, value, refused}
+use Rattle.brackets.specs.Answers.{placeAnswer, placeOf, verdictNumber, value}
 use Rattle.brackets.proofs.Answering.{accepted-of, answered-value, answered-refused}
 use Rattle.brackets.proofs.Questions.{Allowed, allowed, enough, place-is}
 use Rattle.brackets.proofs.place_of.Statement.{statement}

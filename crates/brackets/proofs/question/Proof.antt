@@ -1,5 +1,5 @@
 -- `brackets::question` meets its contract.
-use mathlib.Core.Path.{_≡_, sym, _∙_}
+use mathlib.Core.Path.{sym, _∙_}
 use native.Mathlib.Omega.{arith}
 use borrow.Author.Needs.{needs}
 use Rattle.brackets.proofs.Conditions.{question-1, question-3, question-5, question-flaw}

@@ -1,11 +1,11 @@
 -- `brackets::read` meets its contract: a refusal leaves the tables as they were, else they are what `fill_tables` leaves.
-use mathlib.Core.Path.{_≡_, refl, sym, ap, _∙_}
+use mathlib.Core.Path.{_≡_, sym, _∙_}
 use mathlib.Core.Logic.{_≢_}
 use Prim.Native.Nat.{ℕ, suc}
 use native.Mathlib.Omega.{arith}
 use borrow.Author.Needs.{needs}
 use lib.ListN.{length}
-use Rattle.brackets.specs.Answers.{verdictNumber, flawNumber, Lent, refusalOf}
+use Rattle.brackets.specs.Answers.{verdictNumber, Lent, refusalOf}
 use Rattle.brackets.proofs.Conditions.{read-1, read-2, read-2-next, read-3, read-flaw}
 use Rattle.brackets.proofs.Answering.{accepted-of, refused-of, lent-kept, lent-read}
 use Rattle.brackets.proofs.read.Statement.{statement}

@@ -1,15 +1,13 @@
 -- `brackets::search_from` meets its contract: three legs.
 use mathlib.Core.Path.{_≡_, refl, sym, ap, _∙_}
-use mathlib.Core.Bool.{Bool, true, false, not}
-use Prim.Native.Nat.{ℕ, _+_, _≤_}
+use mathlib.Core.Bool.{Bool, false, not}
+use Prim.Native.Nat.{_≤_}
 use native.Mathlib.Omega.{arith}
 use borrow.Author.Needs.{needs}
-use lib.IntN.{pos}
-use lib.ListN.{length}
 use lib.Signed.{mag}
 use Rattle.refusal.specs.Conditions.{byteBit, bitOf}
 use Rattle.excess.specs.Excess.{byteExcess, byteMinExcess}
-use Rattle.brackets.specs.Searching.{byteEdge, isPast, isMinus, Searched, ByteSearched, Ready}
+use Rattle.brackets.specs.Searching.{byteEdge, isPast, Searched, ByteSearched}
 use Rattle.brackets.proofs.Searching.{passed-small}
 use Rattle.brackets.proofs.Legs.{NotFallen, not-fallen, searched-small, between-ends, ready-ends, near-edge, edge-is, edges, last-leg, first-falls, three-legs}
 use Rattle.brackets.proofs.search_from.Statement.{statement}

@@ -1,11 +1,8 @@
 -- `brackets::spare_bit_set` meets its contract: the spare bits are the high bits of the last byte.
-use mathlib.Core.Path.{_≡_, refl, sym, ap, ap₂, _∙_}
-use mathlib.Core.Bool.{Bool, true, false, not, Bool·beq}
-use Prim.Native.Nat.{ℕ, _+_, _-_, _*_, _/_, _%_, _^_, _≤_, _<_}
+use mathlib.Core.Path.{sym}
+use Prim.Native.Nat.{_/_}
 use native.Mathlib.Omega.{arith}
 use borrow.Author.Needs.{needs}
-use lib.ListN.{getD, length}
-use Rattle.refusal.specs.Conditions.{bitOf, spareBitSet}
 use Rattle.brackets.proofs.Spare.{spare-none, spare-last}
 use Rattle.brackets.proofs.spare_bit_set.Statement.{statement}
 use Rattle.brackets.proofs.spare_bit_set.Tie as tie

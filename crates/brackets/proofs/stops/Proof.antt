@@ -1,11 +1,10 @@
 -- `brackets::stops` meets its contract: two differences of natural numbers are compared.
-use mathlib.Core.Path.{_≡_, refl, sym, ap, ap₂, _∙_}
-use mathlib.Core.Bool.{true, false}
-use Prim.Native.Nat.{ℕ, _+_, _*_}
+use mathlib.Core.Path.{_≡_, sym, ap, ap₂, _∙_}
+use Prim.Native.Nat.{_+_, _*_}
 use native.Mathlib.Omega.{arith}
 use borrow.Author.Needs.{needs}
 use lib.Dec.{ltb}
-use lib.IntN.{ℤ, pos, subℕ, _+ℤ_}
+use lib.IntN.{pos, subℕ, _+ℤ_}
 use lib.ListN.{getD}
 use lib.Signed.{mag, ltZ}
 use mir.Syntax.{w32}

@@ -1,5 +1,5 @@
 -- `brackets::verdict_on` meets its contract.
-use mathlib.Core.Path.{_≡_, sym, _∙_}
+use mathlib.Core.Path.{sym, _∙_}
 use native.Mathlib.Omega.{arith}
 use borrow.Author.Needs.{needs}
 use Rattle.brackets.proofs.Conditions.{tree-1, tree-3, tree-flaw}
