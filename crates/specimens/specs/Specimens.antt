@@ -3,7 +3,6 @@ use mathlib.Core.Path.{_≡_}
 use mathlib.Core.List.{List, [], _∷_}
 use Prim.Native.Nat.{ℕ}
 use lib.ListN.{length, replicate}
-use Rattle.suffix.specs.Rows.{Tables}
 use Rattle.suffix.specs.Tree.{treeLength}
 use Rattle.refusal.specs.Conditions.{readRefusal, wordRefusal}
 use Rattle.build.specs.Built.{Figures, finished, halted, Lent, answer, lentAtExit}
