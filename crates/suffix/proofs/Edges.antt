@@ -149,10 +149,6 @@ module _ (f : ℕ → ℕ) where
   pub prev-chain : {r p : ℕ} → PreviousAt r p → ((i : ℕ) → i < r → ((q : ℕ) × PreviousAt i q) ⊎ NoPrevious i) → (s : ℕ) → suc s ≡ r → Chain s p
   prev-chain h prevs s q = edge-chain (prev-edge h) prevs s q
 
-  pub chain-next : {r p l s : ℕ} → suc s ≡ r → Chain s l → PreviousAt r p → p < l → NextAt l r
-  chain-next {r} {p} {l} q c h w =
-      record { after = omega (arith, chain-le c); smaller = h .nearest l w (omega (arith, chain-le c)); nearest = λ k a b. chain-over c k a (omega arith) }
-
   -- document 004, lemma 7. Here l and r are the places of previous and next of k, or any two with such edges
   module _ {l k r a b : ℕ} (p : PreviousAt k l) (q : NextAt k r) (la : Match f l k a) (lb : Match f k r b) where
     pub match-below : a < b → Match f l r a × Less f l r

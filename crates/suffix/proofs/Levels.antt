@@ -13,7 +13,7 @@ use Rattle.suffix.specs.Tree.{closedBy, unclosed}
 use Rattle.suffix.proofs.Cases.{Tri, lt, eq, gt, tri, Same, same, other, same?, le-unless}
 use Rattle.suffix.proofs.Search.{count-yes, count-no, count-stop, count-same}
 use Rattle.suffix.proofs.Sequence.{Less, asym, less-trans}
-use Rattle.suffix.proofs.Edges.{NextAt, Chain, here, up, chain-edge, prev-edge, next-edge}
+use Rattle.suffix.proofs.Edges.{NextAt, Chain, here, up, chain-edge, prev-edge}
 use Rattle.suffix.proofs.Order.{extended}
 use Rattle.suffix.proofs.Nearest.{PreviousCase, some, none, previous-case, previous-is, previous-all, next-at, next-le}
 
@@ -130,13 +130,6 @@ module _ (y : List ℕ) where
           pick (lt w) = omega (arith, chain-deeper h w (chain w), level-is (next y i) g)
           pick (eq w) = absurd (asym (extended y) (N .smaller) (rw w at (P .smaller)))
           pick (gt w) = absurd (asym (extended y) (N .smaller) (less-trans (extended y) (N .nearest (previous y (next y i)) w (P .before)) (P .smaller)))
-
-  -- between i and next[i] more is open than at i
-  pub level-inner : (i j : ℕ) → i < j → j < next y i → suc (level y i) ≤ level y j
-  level-inner i j a b =
-      let n : next y i ≤ length y = next-le y i in
-      chain-deeper (omega arith) a
-      (chain-edge (extended y) (next-edge (extended y) (next-at y i (omega arith))) (previous-all y (next y i) n) j j (omega arith) (omega arith) b)
 
   -- a row opens at most one more
   pub level-suc : (s : ℕ) → s < length y → level y s ≤ suc (unclosed y s)
