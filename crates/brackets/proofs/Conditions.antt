@@ -67,12 +67,6 @@ module _ (n : ℕ) (t : List ℕ) where
             );
       }
 
-  pub spare-set : (k : ℕ) → 2 * n ≤ k → k < 8 * length t → bitOf t k ≡ true → spareBitSet n t ≡ true
-  unfolding spareBitSet
-  spare-set k h w e =
-      let z : 2 * n + (k - 2 * n) ≡ k = omega arith in
-      any-true (λ k. bitOf t (2 * n + k)) (8 * length t - 2 * n) (k - 2 * n) (omega arith) (rw z e)
-
   pub spare-clear : ((k : ℕ) → 2 * n ≤ k → k < 8 * length t → bitOf t k ≡ false) → spareBitSet n t ≡ false
   unfolding spareBitSet
   spare-clear h = any-false (λ k. bitOf t (2 * n + k)) (8 * length t - 2 * n) (λ k w. h (2 * n + k) (omega arith) (omega arith))

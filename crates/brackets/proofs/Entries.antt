@@ -1,15 +1,13 @@
 -- The tables of a balanced tree, entry by entry.
 use mathlib.Core.Path.{_≡_, sym, _∙_}
-use mathlib.Core.Bool.{Bool}
 use mathlib.Core.List.{List}
-use Prim.Native.Nat.{ℕ, _*_, _≤_, _<_}
+use Prim.Native.Nat.{ℕ, _*_, _<_}
 use native.Mathlib.Omega.{arith}
 use lib.ListN.{length, getD}
 use lib.Seq.{ext-getD}
 use Rattle.refusal.specs.Conditions.{bitOf}
 use Rattle.brackets.specs.Shape.{size, shapeOf, previousTable, nextTable}
-use Rattle.brackets.specs.Searching.{opened}
-use Rattle.brackets.proofs.Heights.{opened-grows, Entry, Enclosed, by, root, entry-one}
+use Rattle.brackets.proofs.Heights.{Entry, entry-one}
 use Rattle.brackets.proofs.Shapes.{Laid, laid-end, entries, parents-length, ends-length}
 use Rattle.brackets.proofs.Parsing.{balanced-laid}
 use Rattle.brackets.proofs.Reading.{Balanced, Reading, reading-end}
@@ -43,8 +41,3 @@ module _ (n : ℕ) (t : List ℕ) (B : Balanced (bitOf t) (2 * n)) where
     where
       same : (i : ℕ) → i < n → (getD prev i 0 ≡ getD (previousTable n t) i 0) × (getD next i 0 ≡ getD (nextTable n t) i 0)
       same i h = entry-one (reading-end (bitOf t) n B R i h) (table-entry i h)
-
--- the position on top is one of those opened, or none
-pub top-most : {g : ℕ → Bool} {n k top : ℕ} → opened g k ≤ n → Enclosed g n k top → top ≤ n
-top-most {g} {n} {k} h (by w e E) = omega (arith, opened-grows g w k (omega (arith, E .before)))
-top-most h (root e f) = omega arith
