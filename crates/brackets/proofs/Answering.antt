@@ -8,16 +8,16 @@ use native.Mathlib.Omega.{arith}
 use lib.Dec.{eqb}
 use borrow.Author.Tests.{eq-eqb, ne-eqb, eqb-true}
 use denote.Enum.Declared.{tagOf, declared}
-use Rattle.refusal.specs.Numbers.{numberOf}
+use Rattle.refusal.specs.Numbers.{numberOf, verdictNumber}
 use Rattle.refusal.proofs.Numbers.{positive}
 use Rattle.refusal.specs.declared.Refusal.{Refusal}
 use Rattle.brackets.specs.Shape.{previousTable, nextTable}
-use Rattle.brackets.specs.Answers.{verdictNumber, Figures, value, refused, figuresOf, answered, Lent, refusalOf, lentAtExit}
-use Rattle.brackets.specs.declared.Verdict.{Verdict}
-use Rattle.brackets.specs.declared.Verdict.the-variants.{Accepted, Refused}
+use Rattle.brackets.specs.Answers.{Figures, value, refused, figuresOf, answered, Lent, refusalOf, lentAtExit}
+use Rattle.refusal.specs.declared.Verdict.{Verdict}
+use Rattle.refusal.specs.declared.Verdict.the-variants.{Accepted, Refused}
 use Rattle.brackets.specs.declared.Answer.{Answer}
 use Rattle.brackets.specs.declared.Answer.the-variants.{Value, NoValue}
-use Rattle.brackets.proofs.Verdict.{enum}
+use Rattle.refusal.proofs.Verdict.{enum}
 use Rattle.brackets.proofs.Answer.{enum as answers}
 use Rattle.suffix.proofs.Cases.{Test, holds, fails, test}
 

@@ -7,18 +7,12 @@ use Prim.Native.Nat.{ℕ, _*_}
 use lib.Dec.{eqb}
 use lib.ListN.{length, getD}
 use Rattle.suffix.specs.Search.{leastFrom}
-use Rattle.refusal.specs.Numbers.{numberOf, lowestFrom}
+use Rattle.refusal.specs.Numbers.{numberOf, lowestFrom, verdictNumber}
 use Rattle.refusal.specs.Conditions.{bitOf, spareBitSet, openings, closedTooEarly, leftOpen, readRefusal, questionRefusal}
 use Rattle.brackets.specs.Shape.{previousTable, nextTable}
-use Rattle.brackets.specs.declared.Verdict.{Verdict}
-use Rattle.brackets.specs.declared.Verdict.the-variants.{Accepted, Refused}
+use Rattle.refusal.specs.declared.Verdict.{Verdict}
 use Rattle.brackets.specs.declared.Answer.{Answer}
 use Rattle.brackets.specs.declared.Answer.the-variants.{Value, NoValue}
-
--- a verdict: 0 where nothing is refused, or the number of the refusal
-abbrev pub verdictNumber : Verdict → ℕ
-verdictNumber Accepted = 0
-verdictNumber (Refused k) = numberOf k
 
 -- what whoever wrote the tree got wrong: 6, 7 or 8, else 0
 abbrev pub flawNumber : ℕ → List ℕ → ℕ

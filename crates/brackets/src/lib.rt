@@ -8,11 +8,11 @@ ghost use lib.ListN.{length};
 ghost use lib.Count as Count;
 ghost use lib.Signed.{mag};
 ghost use Rattle.suffix.specs.Tree.{treeLength};
+ghost use Rattle.refusal.specs.Numbers.{verdictNumber};
 ghost use Rattle.refusal.specs.Conditions.{byteBit, bitOf, spareBitSet, treeRefusal, questionRefusal};
 ghost use Rattle.excess.specs.Excess.{excesses, minExcesses};
 ghost use Rattle.brackets.specs.Shape.{previousTable, nextTable};
 ghost use Rattle.brackets.specs.Answers.{
-  verdictNumber,
   figuresOf,
   flawNumber,
   placeAnswer,
@@ -24,11 +24,7 @@ ghost use Rattle.brackets.specs.Searching.{opened, Live, Searched, ByteS
 use excess::EXCESS;
 use excess::MIN_EXCESS;
 use refusal::Refusal;
-
-pub enum Verdict {
-    Accepted,
-    Refused(Refusal),
-}
+use refusal::Verdict;
 
 pub enum Answer {
     Value(usize),

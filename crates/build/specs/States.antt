@@ -4,11 +4,8 @@ use mathlib.Core.List.{List, [], _∷_}
 use Prim.Native.Nat.{ℕ, zero, suc, _+_, _≤_, _<_}
 use Rattle.suffix.specs.Rows.{Tables}
 use Rattle.reuse.specs.Steps.{Progress, BuildState, SettledPair, settle}
-use Rattle.refusal.specs.Numbers.{numberOf}
 use Rattle.build.specs.declared.State.{State}
 use Rattle.build.specs.declared.SettledPair as declared
-use Rattle.build.specs.declared.Verdict.{Verdict}
-use Rattle.build.specs.declared.Verdict.the-variants.{Taken, Refused}
 
 abbrev pub progressOf : State → Progress
 progressOf s = record { reach = s .reach; shift = s .shift; comparisons = s .comparisons }
@@ -46,8 +43,3 @@ pub record Safe (n : ℕ) (s : Progress) (l r m : ℕ) : Type 0 where
 abbrev pub settledFrom : Bool → List ℕ → Progress → Tables → ℕ → ℕ → ℕ → SettledPair
 settledFrom true y s t l r m = record { progress = s; match = m; leftSmaller = false }
 settledFrom false y s t l r m = settle y s t l r m
-
--- the number of the refusal, or 0
-abbrev pub verdictNumber : Verdict → ℕ
-verdictNumber Taken = 0
-verdictNumber (Refused k) = numberOf k

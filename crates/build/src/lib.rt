@@ -5,11 +5,13 @@ ghost use mathlib.Core.List.{[]};
 ghost use Prim.Native.Nat.{_+_, _-_, _/_, _%_, _^_, _≤_, _<_};
 ghost use lib.ListN.{length, getD, set, replicate};
 ghost use Rattle.suffix.specs.Tree.{treeLength, treeBytes};
+ghost use Rattle.refusal.specs.Numbers.{verdictNumber};
 ghost use Rattle.refusal.specs.Conditions.{buildRefusal};
 ghost use Rattle.reuse.specs.Steps.{scanFrom, afterRows};
-ghost use Rattle.build.specs.States.{progressOf, pairOf, tablesOf, clearedFrom, clearedTables, buildState, Safe, settledFrom, verdictNumber};
+ghost use Rattle.build.specs.States.{progressOf, pairOf, tablesOf, clearedFrom, clearedTables, buildState, Safe, settledFrom};
 ghost use Rattle.build.specs.Built.{lent, BuiltExactly};
 use refusal::Refusal;
+use refusal::Verdict;
 
 // The state of a build: reach c, shift d, the rows done and the comparisons made.
 struct State {
@@ -36,12 +38,6 @@ pub struct Report {
 pub enum Built {
     Finished(Report),
     Halted(Report),
-    Refused(Refusal),
-}
-
-// Whether what is asked can be built over what is lent.
-enum Verdict {
-    Taken,
     Refused(Refusal),
 }
 
@@ -318,7 +314,7 @@ fn judge(
     if rows > n {
         return Verdict::Refused(Refusal::TooManyRows);
     }
-    Verdict::Taken
+    Verdict::Accepted
 }
 
 // Builds the four tables and the tree of the letters, as they are after `rows` rows. A refusal writes nothing.

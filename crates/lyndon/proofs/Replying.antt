@@ -4,7 +4,8 @@ use mathlib.Core.List.{List}
 use Prim.Native.Nat.{ℕ}
 use Rattle.build.specs.declared.Built.{Built}
 use Rattle.build.specs.Built as build
-use Rattle.brackets.specs.declared.Verdict.{Verdict}
+use Rattle.refusal.specs.declared.Verdict.{Verdict}
+use Rattle.refusal.specs.Numbers.{verdictNumber}
 use Rattle.brackets.specs.Answers as brackets
 use Rattle.lyndon.specs.declared.BuildReply.{BuildReply}
 use Rattle.lyndon.specs.declared.Reply.{Reply}
@@ -19,8 +20,8 @@ built e q z = record { replies = z ∙ ap (λ k. buildReply (build.figuresOf k))
 -- a reading with the verdict b, and its number
 pub read :
     {n : ℕ} {tree : List ℕ} {before after : brackets.Lent} {a b : Verdict} {number : ℕ} → brackets.ReadBack n tree before after a → a ≡ b
-    → number ≡ brackets.verdictNumber b → ReadReplied n tree before after number
-read e q z = record { replies = z ∙ ap brackets.verdictNumber (sym q) ∙ e .answers; leaves = e .leaves }
+    → number ≡ verdictNumber b → ReadReplied n tree before after number
+read e q z = record { replies = z ∙ ap verdictNumber (sym q) ∙ e .answers; leaves = e .leaves }
 
 -- a question
 pub answered : {given : Reply} {a b : brackets.Figures} → given ≡ reply a → a ≡ b → given ≡ reply b

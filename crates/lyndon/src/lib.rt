@@ -4,8 +4,8 @@ ghost use Rattle.build.specs.Built.{lent};
 ghost use Rattle.brackets.specs.Answers.{figuresOf, previousAnswer, nextAnswer, placeAnswer};
 ghost use Rattle.lyndon.specs.Replies.{BuildReplied, ReadReplied, reply, wordReply};
 use brackets::Answer;
-use brackets::Verdict;
 use build::Built;
+use refusal::Verdict;
 
 #[repr(C)]
 pub struct BuildReply {

@@ -4,6 +4,8 @@ use mathlib.Core.List.{List, [], _∷_}
 use Prim.Native.Nat.{ℕ, suc}
 use Rattle.refusal.specs.declared.Refusal.{Refusal}
 use Rattle.refusal.specs.declared.Refusal.the-variants.{TooLong, TableLength, TreeLength, TooManyRows, PositionOutside, SpareBitSet, ClosedTooEarly, LeftOpen}
+use Rattle.refusal.specs.declared.Verdict.{Verdict}
+use Rattle.refusal.specs.declared.Verdict.the-variants.{Accepted, Refused}
 
 -- "1: n above 1,000,000." to "8: no such place, but not all are closed."
 abbrev pub numberOf : Refusal → ℕ
@@ -15,6 +17,11 @@ numberOf PositionOutside = 5
 numberOf SpareBitSet = 6
 numberOf ClosedTooEarly = 7
 numberOf LeftOpen = 8
+
+-- the number of a verdict: 0 where nothing is refused
+abbrev pub verdictNumber : Verdict → ℕ
+verdictNumber Accepted = 0
+verdictNumber (Refused k) = numberOf k
 
 -- "The lowest number that applies is returned, and none is returned otherwise." The conditions stand in the order of their
 -- numbers, the first of them having number k; 0 is none.

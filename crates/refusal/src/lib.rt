@@ -13,6 +13,12 @@ pub enum Refusal {
     LeftOpen,
 }
 
+// Whether an operation takes what it is given.
+pub enum Verdict {
+    Accepted,
+    Refused(Refusal),
+}
+
 // The document's number of a refusal.
 pub fn number(refusal: Refusal) -> u32
     ensures { λ r. ⌜ r ≡ numberOf refusal ⌝ }

@@ -2,8 +2,9 @@
 use mathlib.Core.Path.{sym, ap, _∙_}
 use native.Mathlib.Omega.{arith}
 use borrow.Author.Needs.{needs}
+use Rattle.refusal.specs.Numbers.{verdictNumber}
 use Rattle.refusal.specs.Conditions.{questionRefusal}
-use Rattle.brackets.specs.Answers.{placeAnswer, placeOf, verdictNumber, value}
+use Rattle.brackets.specs.Answers.{placeAnswer, placeOf, value}
 use Rattle.brackets.proofs.Answering.{accepted-of, answered-value, answered-refused}
 use Rattle.brackets.proofs.Questions.{Allowed, allowed, enough, place-is}
 use Rattle.brackets.proofs.place_of.Statement.{statement}

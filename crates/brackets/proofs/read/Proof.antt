@@ -5,7 +5,8 @@ use Prim.Native.Nat.{ℕ, suc}
 use native.Mathlib.Omega.{arith}
 use borrow.Author.Needs.{needs}
 use lib.ListN.{length}
-use Rattle.brackets.specs.Answers.{verdictNumber, Lent, refusalOf}
+use Rattle.refusal.specs.Numbers.{verdictNumber}
+use Rattle.brackets.specs.Answers.{Lent, refusalOf}
 use Rattle.brackets.proofs.Conditions.{read-1, read-2, read-2-next, read-3, read-flaw}
 use Rattle.brackets.proofs.Answering.{accepted-of, refused-of, lent-kept, lent-read}
 use Rattle.brackets.proofs.read.Statement.{statement}

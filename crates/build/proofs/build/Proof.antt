@@ -2,8 +2,9 @@
 use mathlib.Core.Path.{_≡_, sym, ap, _∙_}
 use lib.ListN.{replicate}
 use borrow.Author.Needs.{needs}
+use Rattle.refusal.specs.Numbers.{verdictNumber}
 use Rattle.reuse.specs.Steps.{afterRows}
-use Rattle.build.specs.States.{buildState, verdictNumber}
+use Rattle.build.specs.States.{buildState}
 use Rattle.build.specs.Built.{Lent, lent, refusalOf}
 use Rattle.build.proofs.Answers.{Accepted}
 use Rattle.build.proofs.Answers as answers
