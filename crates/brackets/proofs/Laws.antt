@@ -37,7 +37,7 @@ use Rattle.brackets.proofs.Reading.{Balanced}
 use Rattle.brackets.proofs.Entries.{shape-laid, shape-size, previous-length, next-length, table-entry}
 use Rattle.brackets.proofs.Conditions.{Sound, sound, early, not-early, all-closed, spare-clear, spare-none, flaw-0, flaw-7, tree-1, tree-3, tree-flaw, question-flaw}
 use Rattle.brackets.proofs.Answering.{answered-value}
-use Rattle.brackets.proofs.Bits.{bytes-bit, bytes-by-bits}
+use Rattle.brackets.proofs.ByteBits.{bytes-bit, bytes-by-bits}
 use Rattle.brackets.proofs.Rows.{rows-size, rows-parents, rows-ends, full-parents, full-ends}
 
 -- a tree that is not refused

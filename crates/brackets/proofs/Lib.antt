@@ -13,6 +13,6 @@ pub mod Legs
 pub mod Spare
 pub mod Answering
 pub mod Questions
-pub mod Bits
+pub mod ByteBits
 pub mod Rows
 pub mod Laws
