@@ -1,3 +1,2 @@
 pub mod Duval
 pub mod Laws
-pub mod Examples
