@@ -1,4 +1,5 @@
--- What is claimed of trees. Each claim is a type; the law of the same name in proofs/Laws.antt proves it.
+-- What is claimed of trees. Each claim is a type; the law of its name, with a small letter first, proves it
+-- in proofs/Laws.antt.
 use mathlib.Core.Path.{_≡_}
 use mathlib.Core.Bool.{true, false}
 use mathlib.Core.List.{List}

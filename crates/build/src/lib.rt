@@ -5,8 +5,6 @@ ghost use mathlib.Core.List.{[]};
 ghost use Prim.Native.Nat.{_+_, _-_, _/_, _%_, _^_, _≤_, _<_};
 ghost use lib.ListN.{length, getD, set, replicate};
 ghost use Rattle.suffix.specs.Tree.{treeLength, treeBytes};
-ghost use Rattle.refusal.specs.Numbers.{verdictNumber};
-ghost use Rattle.refusal.specs.Conditions.{buildRefusal};
 ghost use Rattle.reuse.specs.Steps.{scanFrom, afterRows};
 ghost use Rattle.build.specs.States.{progressOf, pairOf, tablesOf, clearedFrom, clearedTables, buildState, Safe, settledFrom};
 ghost use Rattle.build.specs.Built.{lent, BuiltExactly};
@@ -70,8 +68,8 @@ impl State {
         ensures { λ u. ⌜ pairOf u ≡ record { progress = record { reach = r + m; shift = r - l; comparisons = self .comparisons }; match = m; leftSmaller = «left_smaller» } ⌝ }
         ensures { λ u. ⌜ u .state .rows ≡ self .rows ⌝ }
     {
-        self.reach = r + m;
         self.shift = r - l;
+        self.reach = r + m;
         SettledPair {
             state: self,
             matched: m,
@@ -290,33 +288,6 @@ fn clear_tree(tree: &mut [u8])
     }
 }
 
-// The verdict on rows of n letters, over tables and a tree of these lengths.
-fn judge(
-    n: usize,
-    rows: usize,
-    previous: usize,
-    next: usize,
-    previous_match: usize,
-    next_match: usize,
-    tree: usize,
-) -> Verdict
-    ensures { λ r. ⌜ verdictNumber r ≡ buildRefusal n rows previous next «previous_match» «next_match» tree ⌝ }
-{
-    if n > 1000000 {
-        return Verdict::Refused(Refusal::TooLong);
-    }
-    if previous != n || next != n || previous_match != n || next_match != n {
-        return Verdict::Refused(Refusal::TableLength);
-    }
-    if tree != (n + 3) / 4 {
-        return Verdict::Refused(Refusal::TreeLength);
-    }
-    if rows > n {
-        return Verdict::Refused(Refusal::TooManyRows);
-    }
-    Verdict::Accepted
-}
-
 // Builds the four tables and the tree of the letters, as they are after `rows` rows. A refusal writes nothing.
 pub fn build(
     letters: &[u8],
@@ -334,7 +305,7 @@ pub fn build(
         r ⌝ }
 {
     let n = letters.len();
-    let verdict = judge(
+    let verdict = refusal::build_verdict(
         n,
         rows,
         previous.len(),

@@ -1,29 +1,60 @@
 -- The claims of specs/Claims.antt, each proved.
-use mathlib.Core.Path.{_≡_}
+use mathlib.Core.Path.{_≡_, refl, sym, ap, ap₂, _∙_}
 use mathlib.Core.List.{List}
-use Prim.Native.Nat.{ℕ}
-use lib.ListN.{length}
+use Prim.Native.Nat.{ℕ, _≤_, _<_}
+use native.Mathlib.Omega.{arith}
+use lib.ListN.{length, getD}
 use borrow.Author.Tests.{eq-eqb}
+use Rattle.suffix.specs.Search.{tabulate}
+use Rattle.suffix.specs.Rows.{previousAfter, nextAfter, tablesAfter}
+use Rattle.suffix.proofs.Search.{tabulate-entry, tabulate-same}
 use Rattle.suffix.proofs.Laws.{allRowsGiveAllEntries}
+use Rattle.refusal.specs.Numbers.{lowest, lowestFrom}
+use Rattle.refusal.specs.Conditions.{readRefusal, treeRefusal}
 use Rattle.build.specs.Built.{Lent, lentAfter, refusalOf, lentAtExit}
 use Rattle.build.proofs.Answers.{accepted}
-use Rattle.brackets.proofs.Laws.{finishedTree, haltedTreeIsRefused as refusedHalted}
-use Rattle.lyndon.specs.Claims.{BuiltThenRead, HaltedTreeIsRefused}
+use Rattle.brackets.specs.Claims.{ReadsAs, forNone}
+use Rattle.brackets.specs.Answers as brackets
+use Rattle.brackets.proofs.Laws.{finishedTree, haltedTree, haltedTreeIsRefused}
+use Rattle.lyndon.specs.Claims.{Fits, Reads, BuiltThenRead, HaltedThenRefused, HaltedThenRead}
 
 -- what a build that is not refused leaves
 left : (letters : List ℕ) (R : ℕ) (before : Lent) → refusalOf letters R before ≡ 0 → lentAtExit letters R before ≡ lentAfter letters R
 unfolding lentAtExit
 left letters R before e = rw (eq-eqb (refusalOf letters R before) 0 e, lentAtExit)
 
+-- over tables that fit, reading refuses what is no tree, and nothing else
+as-tree : (n : ℕ) (t : List ℕ) (tables : brackets.Lent) → Fits n tables → brackets.refusalOf n t tables ≡ treeRefusal n t
+unfolding brackets.refusalOf readRefusal treeRefusal lowest lowestFrom
+as-tree n t tables F = rw (eq-eqb (length (tables .previous)) n (F .previous), eq-eqb (length (tables .next)) n (F .next))
+
+reads : (n : ℕ) (t p x : List ℕ) (tables : brackets.Lent) → Fits n tables → ReadsAs n t p x → Reads n t tables p x
+unfolding brackets.lentAtExit
+reads n t p x tables F A =
+    let e : brackets.refusalOf n t tables ≡ 0 = as-tree n t tables F ∙ A .accepted in
+    record { taken = e; leaves = rw (eq-eqb (brackets.refusalOf n t tables) 0 e, brackets.lentAtExit) (rw (A .previous, A .next)) }
+
 pub builtThenRead : BuiltThenRead
 unfolding lentAfter
-builtThenRead letters before after e z =
+builtThenRead letters before after tables e z F =
     let n = length letters in
     let a = accepted letters n before e in
-    rw (z, left letters n before e, allRowsGiveAllEntries letters) (finishedTree letters (a .few))
+    reads n (after .tree) (after .tables .previous) (after .tables .next) tables F (rw (z, left letters n before e, allRowsGiveAllEntries letters) (finishedTree letters (a .few)))
 
-pub haltedTreeIsRefused : HaltedTreeIsRefused
+pub haltedThenRefused : HaltedThenRefused
 unfolding lentAfter
-haltedTreeIsRefused letters R before after h e z =
+haltedThenRefused letters R before after tables h e z F =
     let a = accepted letters R before e in
-    rw (z, left letters R before e) (refusedHalted letters R h (a .few))
+    as-tree (length letters) (after .tree) tables F ∙ rw (z, left letters R before e) (haltedTreeIsRefused letters R h (a .few))
+
+pub haltedThenRead : HaltedThenRead
+unfolding lentAfter tablesAfter
+haltedThenRead letters R before after tables e z F =
+    let a = accepted letters R before e in
+    reads R _ _ _ tables F (rw (z, left letters R before e, seen (previousAfter letters R) (a .rows), seen (nextAfter letters R) (a .rows)) (haltedTree letters R (a .rows) (omega (arith, a .few, a .rows))))
+  where
+    n : ℕ
+    n = length letters
+
+    seen : (f : ℕ → ℕ) → R ≤ n → tabulate R (λ i. forNone n R (getD (tabulate n f) i 0)) ≡ tabulate R (λ i. forNone n R (f i))
+    seen f h = tabulate-same (λ i. forNone n R (getD (tabulate n f) i 0)) (λ i. forNone n R (f i)) R (λ i k. ap (forNone n R) (tabulate-entry f n i (omega arith)))

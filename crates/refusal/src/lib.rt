@@ -1,6 +1,7 @@
 // Why an operation refuses: document 01, "Who can cause which refusal".
 ghost use mathlib.Core.Path.{_≡_};
-ghost use Rattle.refusal.specs.Numbers.{numberOf};
+ghost use Rattle.refusal.specs.Numbers.{numberOf, verdictNumber};
+ghost use Rattle.refusal.specs.Conditions.{buildRefusal};
 
 pub enum Refusal {
     TooLong,
@@ -33,4 +34,31 @@ pub fn number(refusal: Refusal) -> u32
         Refusal::ClosedTooEarly => 7,
         Refusal::LeftOpen => 8,
     }
+}
+
+// The verdict on a build of so many rows of n letters, over tables and a tree of these lengths.
+pub fn build_verdict(
+    n: usize,
+    rows: usize,
+    previous: usize,
+    next: usize,
+    previous_match: usize,
+    next_match: usize,
+    tree: usize,
+) -> Verdict
+    ensures { λ r. ⌜ verdictNumber r ≡ buildRefusal n rows previous next «previous_match» «next_match» tree ⌝ }
+{
+    if n > 1000000 {
+        return Verdict::Refused(Refusal::TooLong);
+    }
+    if previous != n || next != n || previous_match != n || next_match != n {
+        return Verdict::Refused(Refusal::TableLength);
+    }
+    if tree != (n + 3) / 4 {
+        return Verdict::Refused(Refusal::TreeLength);
+    }
+    if rows > n {
+        return Verdict::Refused(Refusal::TooManyRows);
+    }
+    Verdict::Accepted
 }

@@ -1,4 +1,4 @@
--- What is claimed of the reuse steps. Each claim is a type; the law of the same name in proofs/Laws.antt proves it.
+-- What is claimed of the reuse steps. Each claim is a type; the law of its name, with a small letter first, proves it in proofs/Laws.antt.
 use mathlib.Core.Path.{_≡_}
 use mathlib.Core.Logic.{_⊎_}
 use mathlib.Core.List.{List}

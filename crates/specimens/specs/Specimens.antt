@@ -3,13 +3,16 @@ use mathlib.Core.Path.{_≡_}
 use mathlib.Core.List.{List, [], _∷_}
 use Prim.Native.Nat.{ℕ}
 use lib.ListN.{length, replicate}
+use Rattle.suffix.specs.Ranks.{ranks}
+use Rattle.suffix.specs.Search.{tabulate}
 use Rattle.suffix.specs.Tree.{treeLength}
+use Rattle.suffix.specs.Lyndon.{longestLyndon}
 use Rattle.refusal.specs.Conditions.{readRefusal, wordRefusal}
 use Rattle.build.specs.Built.{Figures, finished, halted, Lent, answer, lentAtExit}
 use Rattle.word.specs.Word.{wordPart}
 
--- what may be asked: the answer of a build of R rows, or one of the four tables or the tree that it leaves; the refusal of a tree
--- of n positions; the refusal of the longest-word question, and its word
+-- what may be asked: the answer of a build of R rows, or one of the four tables or the tree that it leaves; the Lyndon length of every
+-- position; the refusal of a tree of n positions; the refusal of the longest-word question, and its word
 pub data Question : Type 0 where
   answers : List ℕ → ℕ → Question
   previous : List ℕ → ℕ → Question
@@ -17,6 +20,7 @@ pub data Question : Type 0 where
   previous-match : List ℕ → ℕ → Question
   next-match : List ℕ → ℕ → Question
   tree : List ℕ → ℕ → Question
+  lengths : List ℕ → Question
   read : ℕ → List ℕ → Question
   word-refusal : List ℕ → ℕ → Question
   word : List ℕ → ℕ → Question
@@ -44,6 +48,7 @@ given (next letters R) = entries (left letters R .tables .next)
 given (previous-match letters R) = entries (left letters R .tables .previousMatch)
 given (next-match letters R) = entries (left letters R .tables .nextMatch)
 given (tree letters R) = entries (left letters R .tree)
+given (lengths letters) = entries (tabulate (length letters) (longestLyndon (ranks letters)))
 given (read n t) = number (readRefusal n t n n)
 given (word-refusal letters i) = number (wordRefusal (length letters) i)
 given (word letters i) = entries (wordPart letters i)
@@ -109,6 +114,7 @@ table =
     ∷ is (previous banana 6) (entries (6 ∷ 6 ∷ 1 ∷ 6 ∷ 3 ∷ 6 ∷ []))
     ∷ is (next banana 6) (entries (1 ∷ 3 ∷ 3 ∷ 5 ∷ 5 ∷ 6 ∷ []))
     ∷ is (next-match banana 6) (entries (0 ∷ 3 ∷ 0 ∷ 1 ∷ 0 ∷ 0 ∷ []))
+    ∷ is (lengths banana) (entries (1 ∷ 2 ∷ 1 ∷ 2 ∷ 1 ∷ 1 ∷ []))
     ∷ is (answers banana 6) (figures (finished 6 6 6))
     ∷ is (tree banana 6) (entries (0xCD ∷ 0x04 ∷ []))
     -- "M8 banana, R 4: halted; previous 6 6 1 6 6 6, next 1 3 3 6 6 6, next-match 0 3 0 0 0 0, 6 comparisons, reach 6, tree 4D 00."
@@ -125,6 +131,7 @@ table =
     ∷ is (word-refusal banana 1) (number 0)
     ∷ is (word banana 1) (entries (97 ∷ 110 ∷ []))
     ∷ is (word-refusal banana 6) (number 5)
+    ∷ is (word banana 6) (entries [])
     ∷ []
 
 abbrev pub allGiven : List Specimen → List Reply

@@ -248,7 +248,7 @@ fn text_buffer() -> [u8; 180000]
 }
 
 // Writes to standard output what render makes of the letters. What a call on a file descriptor writes is beyond a contract.
-pub fn print(letters: &[u8]) -> bool {
+fn print(letters: &[u8]) -> bool {
     let mut text = text_buffer();
     let n = render(letters, &mut text);
     io::write_all(STDOUT_FILENO, &text[..n])

@@ -21,7 +21,7 @@ start m = m .before .before .before .before .before .before .before .before .bef
 
 taken : (m : tie.After-enum-told) → let s = start m in refusalOf (s .args .letters .now) (s .args .rows) (before s) ≡ 0
 unfolding refusalOf
-taken m = sym (m .before .before .judge .ensures) ∙ ap verdictNumber (m .enum-told .given .1)
+taken m = sym (m .before .before .build-verdict .ensures) ∙ ap verdictNumber (m .enum-told .given .1)
 
 accepted : (m : tie.After-enum-told) → let s = start m in Accepted (s .args .letters .now) (s .args .rows) (before s)
 accepted m = answers.accepted _ _ _ (taken m)
@@ -38,7 +38,7 @@ after t = let u = t .clear-tables .last .1 .1 in lent (u .0) (u .1 .0) (u .1 .1 
 
 returns : tie.Need-returns
 unfolding refusalOf
-returns c = answers.refused _ _ _ _ (sym (ap verdictNumber (c .before .verdict .given .1)) ∙ c .before .before .before .judge .ensures)
+returns c = answers.refused _ _ _ _ (sym (ap verdictNumber (c .before .verdict .given .1)) ∙ c .before .before .before .build-verdict .ensures)
 
 build-rows-requires : tie.Need-build-rows-requires
 build-rows-requires c κs =

@@ -1,11 +1,11 @@
--- `build::judge` meets its contract.
+-- `refusal::build_verdict` meets its contract.
 use mathlib.Core.Logic.{⊎-elim}
 use borrow.Author.Needs.{needs}
 use borrow.Author.Tests.{lt-ltb, le-ltb, eq-eqb, ne-eqb}
 use Rattle.refusal.specs.Numbers.{lowest, lowestFrom}
 use Rattle.refusal.specs.Conditions.{buildRefusal}
-use Rattle.build.proofs.judge.Statement.{statement}
-use Rattle.build.proofs.judge.Tie as tie
+use Rattle.refusal.proofs.build_verdict.Statement.{statement}
+use Rattle.refusal.proofs.build_verdict.Tie as tie
 
 returns : tie.Need-returns
 unfolding buildRefusal lowest lowestFrom
@@ -33,5 +33,5 @@ unfolding buildRefusal lowest lowestFrom
 returns-5 c =
     simp (le-ltb _ _ (c .before .before .before .before .before .before .if1 .left), eq-eqb _ _ (c .before .before .before .before .before .if2 .left), c .before .before .before .before .if3 .left, c .before .before .before .if4 .left, c .before .before .if5 .left, eq-eqb _ _ (c .before .if6 .left), le-ltb _ _ (c .if7 .left))
 
-pub judge-spec : {M : Type 1} → statement M
-judge-spec = tie.close (tie.spec returns returns-2 (λ c. search needs) returns-3 returns-4 returns-5)
+pub build-verdict-spec : {M : Type 1} → statement M
+build-verdict-spec = tie.close (tie.spec returns returns-2 (λ c. search needs) returns-3 returns-4 returns-5)
