@@ -1,4 +1,4 @@
--- What the refusal conditions 6 to 8 say of the bits.
+-- What the refusal conditions say, and what 6 to 8 say of the bits.
 use mathlib.Core.Path.{_≡_, refl}
 use mathlib.Core.Logic.{_≢_}
 use mathlib.Core.Bool.{Bool, true, false, not, _&&_}
