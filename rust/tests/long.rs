@@ -1,10 +1,10 @@
-//! Long strings of different kinds, whole and halted, against the fast reference.
+//! Long strings of different kinds, whole and halted, against the fast reference, and less long ones against the definitions.
 
 mod common;
 
 use common::{assert_build, assert_questions, assert_tree_of_build, assert_word, FAST};
-use reference::fast;
 use reference::samples::{self, Random};
+use reference::{definitions, fast};
 
 /// Builds the string whole and with `halts` random numbers of rows, and asks at random positions.
 fn check_string(random: &mut Random, letters: &[u8], halts: usize) {
@@ -72,5 +72,30 @@ fn random_words_repeated() {
         let (length, size) = (1 + random.below(20), 1 + random.below(3));
         let word = samples::random_string(&mut random, length, size);
         check_string(&mut random, &samples::repeated(&word, n), 3);
+    }
+}
+
+/// The string whole and with a random number of rows, by the definitions.
+fn check_by_definitions(random: &mut Random, letters: &[u8]) {
+    let n = letters.len();
+    for rows in [n, random.below(n)] {
+        assert_build(letters, rows, &definitions::build(letters, rows));
+    }
+}
+
+#[test]
+fn strings_of_each_kind_by_the_definitions() {
+    let mut random = Random::new(16);
+    for (_, letters) in samples::kinds(&mut random, 1_000) {
+        check_by_definitions(&mut random, &letters);
+    }
+}
+
+#[test]
+fn random_strings_of_5_000_letters_by_the_definitions() {
+    let mut random = Random::new(17);
+    for size in [2, 4, 256] {
+        let letters = samples::random_string(&mut random, 5_000, size);
+        check_by_definitions(&mut random, &letters);
     }
 }
