@@ -148,6 +148,7 @@ fn search_bytes(
 {
     let stop = end / 8;
     let mut s = start;
+    // it counts bytes in the loops
     s.at = start.at / 8;
     while has_eight(s.at, stop, back) {
         // unrolled by the compiler: how fast a loop of a few instructions is depends on where it is placed
