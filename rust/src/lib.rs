@@ -304,3 +304,8 @@ impl Structure {
         })
     }
 }
+
+/// The example of README.md runs too.
+#[cfg(doctest)]
+#[doc = include_str!("../../README.md")]
+struct Readme;
