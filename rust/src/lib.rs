@@ -151,24 +151,15 @@ pub fn build(
     next_match: &mut [u32],
     tree: &mut [u8],
 ) -> Result<Built, Refusal> {
-    // SAFETY: each pointer comes from a slice with its length, and exclusive slices do not overlap.
-    let reply = unsafe {
-        raw::lyndon_build(
-            letters.as_ptr(),
-            letters.len(),
-            rows,
-            previous.as_mut_ptr(),
-            previous.len(),
-            next.as_mut_ptr(),
-            next.len(),
-            previous_match.as_mut_ptr(),
-            previous_match.len(),
-            next_match.as_mut_ptr(),
-            next_match.len(),
-            tree.as_mut_ptr(),
-            tree.len(),
-        )
-    };
+    let reply = raw::build(
+        letters,
+        rows,
+        previous,
+        next,
+        previous_match,
+        next_match,
+        tree,
+    );
     Refusal::check(reply.refusal)?;
     Ok(Built {
         finished: reply.finished != 0,

@@ -1,4 +1,4 @@
-//! The functions of `liblyndon.a` as they are exported. A slice passes as a pointer and a length.
+//! The functions of `liblyndon.a` as they are exported, and the build over slices. A slice passes as a pointer and a length.
 //! `include/lyndon.h` declares the same.
 
 /// The answer of [`lyndon_build`].
@@ -37,6 +37,36 @@ pub struct PartReply {
     pub start: usize,
     /// The part's length, 0 where refused.
     pub length: usize,
+}
+
+/// [`lyndon_build`] over slices.
+pub fn build(
+    letters: &[u8],
+    rows: usize,
+    previous: &mut [u32],
+    next: &mut [u32],
+    previous_match: &mut [u32],
+    next_match: &mut [u32],
+    tree: &mut [u8],
+) -> BuildReply {
+    // SAFETY: each pointer comes from a slice with its length, and exclusive slices do not overlap.
+    unsafe {
+        lyndon_build(
+            letters.as_ptr(),
+            letters.len(),
+            rows,
+            previous.as_mut_ptr(),
+            previous.len(),
+            next.as_mut_ptr(),
+            next.len(),
+            previous_match.as_mut_ptr(),
+            previous_match.len(),
+            next_match.as_mut_ptr(),
+            next_match.len(),
+            tree.as_mut_ptr(),
+            tree.len(),
+        )
+    }
 }
 
 extern "C" {

@@ -7,8 +7,17 @@ use Rattle.refusal.specs.Conditions.{byteBit, bitOf, spareBitSet, closedTooEarl
 use Rattle.brackets.specs.Shape.{forestsFrom, shapeOf, previousTable, nextTable}
 use Rattle.brackets.specs.Answers.{value, refused, placeOf, previousAnswer, nextAnswer, placeAnswer}
 
--- the tree of banana, and that of its first four rows, which is a tree of 4 positions and not of 6
-verdicts : treeRefusal 6 (0xCD ∷ 0x04 ∷ []) ∷ treeRefusal 6 (0x4D ∷ 0x00 ∷ []) ∷ treeRefusal 4 (0x4D ∷ []) ∷ [] ≡ 0 ∷ 7 ∷ 0 ∷ []
+-- the verdict, without tables, on the trees of M9 to M11, on that of banana, and on that of its first four rows, which is a tree of 4
+-- positions and not of 6
+verdicts :
+    treeRefusal 2 (0x02 ∷ [])
+    ∷ treeRefusal 2 (0x0F ∷ [])
+    ∷ treeRefusal 2 (0x15 ∷ [])
+    ∷ treeRefusal 6 (0xCD ∷ 0x04 ∷ [])
+    ∷ treeRefusal 6 (0x4D ∷ 0x00 ∷ [])
+    ∷ treeRefusal 4 (0x4D ∷ [])
+    ∷ []
+    ≡ 7 ∷ 8 ∷ 6 ∷ 0 ∷ 7 ∷ 0 ∷ []
 unfolding anyBelow countBelow lowestFrom lowest byteBit bitOf spareBitSet closedTooEarly leftOpen treeRefusal
 verdicts = refl
 

@@ -9,10 +9,11 @@ use Rattle.suffix.specs.Tree.{treeLength}
 use Rattle.suffix.specs.Lyndon.{longestLyndon}
 use Rattle.refusal.specs.Conditions.{readRefusal, wordRefusal}
 use Rattle.build.specs.Built.{Figures, finished, halted, Lent, answer, lentAtExit}
-use Rattle.word.specs.Word.{wordPart}
+use Rattle.word.specs.Word.{wordPart, wordStart}
 
 -- what may be asked: the answer of a build of R rows, or one of the four tables or the tree that it leaves; the Lyndon length of every
--- position; the refusal of a tree of n positions; the refusal of the longest-word question, and its word
+-- position; the refusal of a tree of n positions; the refusal of the longest-word question, its word, and where
+-- that starts
 pub data Question : Type 0 where
   answers : List ℕ → ℕ → Question
   previous : List ℕ → ℕ → Question
@@ -24,6 +25,7 @@ pub data Question : Type 0 where
   read : ℕ → List ℕ → Question
   word-refusal : List ℕ → ℕ → Question
   word : List ℕ → ℕ → Question
+  word-start : List ℕ → ℕ → Question
 
 pub data Reply : Type 0 where
   figures : Figures → Reply
@@ -52,6 +54,7 @@ given (lengths letters) = entries (tabulate (length letters) (longestLyndon (ran
 given (read n t) = number (readRefusal n t n n)
 given (word-refusal letters i) = number (wordRefusal (length letters) i)
 given (word letters i) = entries (wordPart letters i)
+given (word-start letters i) = number (wordStart letters i)
 
 pub record Specimen : Type 0 where
   pub question : Question
@@ -130,8 +133,10 @@ table =
     -- "M12 longest word in banana at 1: `an`; at 6: refused 5."
     ∷ is (word-refusal banana 1) (number 0)
     ∷ is (word banana 1) (entries (97 ∷ 110 ∷ []))
+    ∷ is (word-start banana 1) (number 1)
     ∷ is (word-refusal banana 6) (number 5)
     ∷ is (word banana 6) (entries [])
+    ∷ is (word-start banana 6) (number 0)
     ∷ []
 
 abbrev pub allGiven : List Specimen → List Reply

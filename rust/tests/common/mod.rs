@@ -144,31 +144,15 @@ impl Lent {
 
     /// Builds through the exported function.
     pub fn build_raw(&mut self, letters: &[u8], rows: usize) -> raw::BuildReply {
-        let [previous, next, previous_match, next_match] = [
+        raw::build(
+            letters,
+            rows,
             self.previous.lent(),
             self.next.lent(),
             self.previous_match.lent(),
             self.next_match.lent(),
-        ];
-        let tree = self.tree.lent();
-        // SAFETY: each pointer comes from a slice with its length, and the lists are apart.
-        unsafe {
-            raw::lyndon_build(
-                letters.as_ptr(),
-                letters.len(),
-                rows,
-                previous.as_mut_ptr(),
-                previous.len(),
-                next.as_mut_ptr(),
-                next.len(),
-                previous_match.as_mut_ptr(),
-                previous_match.len(),
-                next_match.as_mut_ptr(),
-                next_match.len(),
-                tree.as_mut_ptr(),
-                tree.len(),
-            )
-        }
+            self.tree.lent(),
+        )
     }
 
     /// Asserts that nothing has been written.

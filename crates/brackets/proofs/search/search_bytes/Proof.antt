@@ -20,7 +20,6 @@ record EightBytes (t : List ℕ) (back : Bool) (f j₀ : ℕ) (sum₀ : ℤ) (j 
   going : GoingBytes t back (8 * j₀) (mag sum₀) f j sum
   passed : distance f j + m ≡ distance f j₀
   enough : 8 ≤ distance f j₀
-  within : m ≤ 8
 
 -- there is one more
 not-there : (f j d m : ℕ) → distance f j + m ≡ d → 8 ≤ d → m < 8 → j ≢ f
@@ -86,7 +85,6 @@ loop2-holds c =
       going = restart (s .args .back) (l .loop .inv) (s .pre .0 .small);
       passed = omega arith;
       enough = eight-left (s .args .back) (l .loop .s .at) (s .args .end / 8) (sym (h .has-eight .ensures) ∙ c .if1 .taken);
-      within = omega arith;
     }
 
 -- within the eight bytes
@@ -173,7 +171,6 @@ loop2-again c =
       going = byte-going (back a) (i .going) ne (byte-is w) (not-stopped (c .before)) (c .pass-byte .ensures .0) (c .pass-byte .ensures .1);
       passed = rw (c .pass-byte .ensures .0) (one-more _ _ _ (a .loop2 .m) (one-byte-less (back a) (i .going .going .way) ne) (i .passed));
       enough = i .enough;
-      within = omega (arith, inside w);
     }
 
 mul-s-2 : tie.Need-mul-s-2 Inv-loop2 μ-loop2 Inv-loop μ-loop
