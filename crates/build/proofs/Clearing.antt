@@ -75,25 +75,23 @@ clears-all {k} {i} {v} {d₀} {d} c h =
 -- ---- four tables
 
 module _ (n : ℕ) (t : Tables) where
-  -- next[l] and previous[r] are recorded; next[k] is left pending
-  pub next-recorded : (p q l r m : ℕ) → l < q → clearedTables n p q (recordNext t l r m) ≡ recordNext (clearedTables n p q t) l r m
+  pub next-recorded : (k l r m : ℕ) → l < k → clearedTables n k (recordNext t l r m) ≡ recordNext (clearedTables n k t) l r m
   unfolding recordNext
-  next-recorded p q l r m h = rw (cleared-set q n l r (t .next) h, cleared-set q 0 l m (t .nextMatch) h)
+  next-recorded k l r m h = rw (cleared-set k n l r (t .next) h, cleared-set k 0 l m (t .nextMatch) h)
 
-  pub previous-recorded : (q r l m : ℕ) → clearedTables n (suc r) q (recordPrevious t r l m) ≡ recordPrevious (clearedTables n r q t) r l m
+  -- of position k, previous is recorded and next is left pending
+  pub row-recorded : (k p v : ℕ) → clearedTables n (suc k) (recordNext (recordPrevious t k p v) k n 0) ≡ recordPrevious (clearedTables n k t) k p v
+  unfolding recordPrevious recordNext
+  row-recorded k p v = rw (cleared-more k n p (t .previous), cleared-more k 0 v (t .previousMatch), cleared-same k n (t .next), cleared-same k 0 (t .nextMatch))
+
+  -- none is recorded where none is
+  pub previous-none : recordPrevious (clearedTables n 0 t) 0 n 0 ≡ clearedTables n 0 t
   unfolding recordPrevious
-  previous-recorded q r l m = rw (cleared-more r n l (t .previous), cleared-more r 0 m (t .previousMatch))
-
-  pub next-pending : (p k : ℕ) → clearedTables n p (suc k) (recordNext t k n 0) ≡ clearedTables n p k t
-  unfolding recordNext
-  next-pending p k = rw (cleared-same k n (t .next), cleared-same k 0 (t .nextMatch))
-
-  pub previous-none : (q : ℕ) → clearedTables n 1 q (recordPrevious t 0 n 0) ≡ clearedTables n 0 q t
-  unfolding recordPrevious
-  previous-none q = rw (cleared-same 0 n (t .previous), cleared-same 0 0 (t .previousMatch))
+  previous-none =
+      rw (sym (cleared-more 0 n n (t .previous)) ∙ cleared-same 0 n (t .previous), sym (cleared-more 0 0 0 (t .previousMatch)) ∙ cleared-same 0 0 (t .previousMatch))
 
   -- nothing is recorded
   pub all-cleared : length (t .previous) ≡ n → length (t .next) ≡ n → length (t .previousMatch) ≡ n → length (t .nextMatch) ≡ n
-      → clearedTables n 0 0 t ≡ tablesOf (replicate n n) (replicate n n) (replicate n 0) (replicate n 0)
+      → clearedTables n 0 t ≡ tablesOf (replicate n n) (replicate n n) (replicate n 0) (replicate n 0)
   all-cleared a b c d =
       rw (cleared-all n (t .previous), cleared-all n (t .next), cleared-all 0 (t .previousMatch), cleared-all 0 (t .nextMatch), a, b, c, d)

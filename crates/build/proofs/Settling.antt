@@ -69,10 +69,10 @@ same-reads y s t u l r m h = go (tri (r + m) (s .reach))
 
 -- none of them a previous entry, and none from r on
 pub reads-before : (known : Bool) (y : List ℕ) (s : Progress) (n : ℕ) (t : Tables) (l r m : ℕ) → l < r → (known ≡ false → r + m < s .reach → 0 < s .shift)
-    → settledFrom known y s (tablesOf [] (t .next) (t .previousMatch) (t .nextMatch)) l r m ≡ settledFrom known y s (clearedTables n r r t) l r m
+    → settledFrom known y s (tablesOf [] (t .next) (t .previousMatch) (t .nextMatch)) l r m ≡ settledFrom known y s (clearedTables n r t) l r m
 reads-before true y s n t l r m h d = refl
 reads-before false y s n t l r m h d =
-    same-reads y s (tablesOf [] (t .next) (t .previousMatch) (t .nextMatch)) (clearedTables n r r t) l r m
+    same-reads y s (tablesOf [] (t .next) (t .previousMatch) (t .nextMatch)) (clearedTables n r t) l r m
     (λ w. (
       sym (cleared-get r n (l - s .shift) (t .next) (omega arith)),
       sym (cleared-get r 0 (l - s .shift) (t .nextMatch) (omega arith)),

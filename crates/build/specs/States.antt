@@ -22,9 +22,9 @@ clearedFrom k v [] = []
 clearedFrom zero v (x ∷ t) = v ∷ clearedFrom zero v t
 clearedFrom (suc k) v (x ∷ t) = x ∷ clearedFrom k v t
 
--- tables for n letters with none and match 0 for every position from p on in previous, and from q on in next
-abbrev pub clearedTables : ℕ → ℕ → ℕ → Tables → Tables
-clearedTables n p q t = tablesOf (clearedFrom p n (t .previous)) (clearedFrom q n (t .next)) (clearedFrom p 0 (t .previousMatch)) (clearedFrom q 0 (t .nextMatch))
+-- tables for n letters with none and match 0 for every position from k on
+abbrev pub clearedTables : ℕ → ℕ → Tables → Tables
+clearedTables n k t = tablesOf (clearedFrom k n (t .previous)) (clearedFrom k n (t .next)) (clearedFrom k 0 (t .previousMatch)) (clearedFrom k 0 (t .nextMatch))
 
 abbrev pub buildState : State → Tables → BuildState
 buildState s t = record { progress = progressOf s; tables = t }

@@ -181,7 +181,7 @@ fn build_rows(
     requires { ⌜ now tree ≡ replicate (treeLength (length (now letters))) 0 ⌝ }
     ensures { λ s.
         ⌜ buildState s
-        (clearedTables (length (now (letters .entry))) rows rows (tablesOf (now (previous .exit)) (now (next .exit)) (now («previous_match» .exit)) (now («next_match» .exit))))
+        (clearedTables (length (now (letters .entry))) rows (tablesOf (now (previous .exit)) (now (next .exit)) (now («previous_match» .exit)) (now («next_match» .exit))))
         ≡ afterRows (now (letters .entry)) rows ⌝ }
     ensures { λ s. ⌜ now (tree .exit) ≡ treeBytes (now (letters .entry)) rows ⌝ }
     ensures { λ s. ⌜ s .rows ≡ rows ⌝ }
@@ -202,11 +202,14 @@ fn build_rows(
         comparisons: 0,
     };
     let mut bit = 0;
-    record_entry(previous, previous_match, 0, n, 0);
+    // previous and its match of the row that is done last, still to be recorded
+    let mut p = n;
+    let mut v = 0usize;
     'rows: loop {
         set_bit(tree, bit);
         bit += 1;
         let r = state.rows;
+        record_entry(previous, previous_match, r - 1, p, v);
         // pending
         record_entry(next, next_match, r - 1, n, 0);
         if rows <= r {
@@ -222,19 +225,19 @@ fn build_rows(
             state = settled;
             m = pair.matched;
             if pair.left_smaller {
-                record_entry(previous, previous_match, r, l, m);
+                p = l;
+                v = m;
                 break 'walk;
             }
             record_entry(next, next_match, l, r, m);
             bit += 1;
-            let p = read(previous, l);
+            p = read(previous, l);
             if p == n {
-                record_entry(previous, previous_match, r, n, 0);
+                v = 0;
                 break 'walk;
             }
-            let v = read(previous_match, l);
+            v = read(previous_match, l);
             if v < m {
-                record_entry(previous, previous_match, r, p, v);
                 break 'walk;
             }
             known = m < v;
@@ -270,7 +273,7 @@ fn clear_tables(
     requires { ⌜ (length (now previous) ≡ n) × (length (now next) ≡ n) × (length (now «previous_match») ≡ n) × (length (now «next_match») ≡ n) ⌝ }
     ensures { λ _.
         ⌜ tablesOf (now (previous .exit)) (now (next .exit)) (now («previous_match» .exit)) (now («next_match» .exit))
-        ≡ clearedTables n rows rows (tablesOf (now (previous .entry)) (now (next .entry)) (now («previous_match» .entry)) (now («next_match» .entry))) ⌝ }
+        ≡ clearedTables n rows (tablesOf (now (previous .entry)) (now (next .entry)) (now («previous_match» .entry)) (now («next_match» .entry))) ⌝ }
 {
     clear_from(previous, rows, n);
     clear_from(next, rows, n);

@@ -19,7 +19,7 @@ use Rattle.suffix.proofs.Rows.{previousAfter-in, previousMatchAfter-in, previou
 use Rattle.reuse.specs.Steps.{Progress, BuildState, SettledPair, Walk, asked, settled, ended, settle, recordPrevious, recordNext, climb, advance, advances}
 use Rattle.reuse.proofs.Settle.{Settled, settle-settled}
 use Rattle.reuse.proofs.RowKeeps.{finish, finish-none, up-known, up-asked}
-pub use Rattle.reuse.proofs.RowKeeps.{Sizes, AtAsked, AtSettled, Done, Holds, at-asked, at-settled, at-end}
+pub use Rattle.reuse.proofs.RowKeeps.{Sizes, next-sizes, previous-sizes, AtAsked, AtSettled, Done, Holds, at-asked, at-settled, at-end}
 
 module _ (y : List ℕ) (r : ℕ) (small : r < length y) where
   -- ---- the clauses of a move

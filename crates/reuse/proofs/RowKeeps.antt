@@ -31,6 +31,26 @@ pub record Sizes (y : List ℕ) (t : Tables) : Type 0 where
   pub previousMatch : length (t .previousMatch) ≡ length y
   pub nextMatch : length (t .nextMatch) ≡ length y
 
+pub next-sizes : {y : List ℕ} {t : Tables} → Sizes y t → (i v m : ℕ) → Sizes y (recordNext t i v m)
+unfolding recordNext
+next-sizes {y} {t} S i v m =
+    record {
+      previous = S .previous;
+      next = length-set (t .next) i v ∙ S .next;
+      previousMatch = S .previousMatch;
+      nextMatch = length-set (t .nextMatch) i m ∙ S .nextMatch;
+    }
+
+pub previous-sizes : {y : List ℕ} {t : Tables} → Sizes y t → (i v m : ℕ) → Sizes y (recordPrevious t i v m)
+unfolding recordPrevious
+previous-sizes {y} {t} S i v m =
+    record {
+      previous = length-set (t .previous) i v ∙ S .previous;
+      next = S .next;
+      previousMatch = length-set (t .previousMatch) i m ∙ S .previousMatch;
+      nextMatch = S .nextMatch;
+    }
+
 -- c covers each edge of the rows before r, and each (a, r) with a from b on
 pub record Covered (y : List ℕ) (r b c : ℕ) : Type 0 where
   pub seen : (a z : ℕ) → Edge (extended y) a z → z < r → z + lce y a z ≤ c
@@ -111,13 +131,7 @@ module _ (y : List ℕ) (r : ℕ) (small : r < length y) where
   unfolding recordPrevious
   end s t p m E =
       record {
-        sizes =
-            record {
-              previous = length-set (t .previous) r p ∙ E .sizes .previous;
-              next = E .sizes .next;
-              previousMatch = length-set (t .previousMatch) r m ∙ E .sizes .previousMatch;
-              nextMatch = E .sizes .nextMatch;
-            };
+        sizes = previous-sizes (E .sizes) r p m;
         previous = λ k w.
             stored (t .previous) (length y) r p (previousAfter y (suc r)) (E .sizes .previous) (sym (previousAfter-in y (suc r) r (omega arith) ∙ E .place)) k w
             (λ h. E .filled .previous k w ∙ previousAfter-stays y r k h);
@@ -192,14 +206,7 @@ module _ (y : List ℕ) (r : ℕ) (small : r < length y) where
     next-l = next-is y l l-in r N
 
     put-sizes : Sizes y t′
-    unfolding recordNext
-    put-sizes =
-        record {
-          previous = M .sizes .previous;
-          next = length-set (t .next) l r ∙ M .sizes .next;
-          previousMatch = M .sizes .previousMatch;
-          nextMatch = length-set (t .nextMatch) l (u .match) ∙ M .sizes .nextMatch;
-        }
+    put-sizes = next-sizes (M .sizes) l r (u .match)
 
     put-filled : Filled y r l t′
     unfolding recordNext

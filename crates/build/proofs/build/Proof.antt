@@ -1,6 +1,6 @@
 -- `build::build` meets its contract: each way out is a law of proofs/Answers.antt.
 use mathlib.Core.Path.{_≡_, sym, ap, _∙_}
-use lib.ListN.{replicate}
+use lib.ListN.{length, replicate}
 use borrow.Author.Needs.{needs}
 use Rattle.refusal.specs.Numbers.{verdictNumber}
 use Rattle.reuse.specs.Steps.{afterRows}
@@ -29,8 +29,11 @@ accepted m = answers.accepted _ _ _ (taken m)
 abbrev told : tie.After-build-rows → tie.After-enum-told
 told d = d .before .before .before .before .before .before .before .before .before .before
 
+abbrev left : tie.After-clear-tables → tie.After-slice-known11
+left t = t .before .before .before .before .before
+
 abbrev built : tie.After-clear-tables → tie.After-build-rows
-built t = t .before .before .before .before .before .before .before .before .before .before .before .before .before .before .before
+built t = left t .before .before .before .before .before .before .before .before .before .before
 
 -- the memory at exit
 abbrev after : tie.After-clear-tables → Lent
@@ -47,8 +50,34 @@ build-rows-requires c κs =
 
 clear-tables-requires : tie.Need-clear-tables-requires
 clear-tables-requires c κs =
-    let a = accepted (told (c .before .before .before .before .before .before .before .before .before .before .before .before .before .before)) in
-    ((a .few, a .rows), (c .before .before .before .before .before .before .before .before .before .before .before .before .before .previous .given ∙ a .previous, c .before .before .before .before .before .before .before .before .before .before .before .next .given ∙ a .next, c .before .before .before .before .before .before .before .before .before .previous-match .given ∙ a .previousMatch, c .before .before .before .before .before .before .before .next-match .given ∙ a .nextMatch))
+    let k = c .before .before .before .before in
+    let a = accepted (told (k .before .before .before .before .before .before .before .before .before .before)) in (
+      (a .few, a .rows),
+      (k .before .before .before .before .before .before .before .before .before .previous .given ∙ a .previous, k .before .before .before .before .before .before .before .next .given ∙ a .next, k .before .before .before .before .before .previous-match .given ∙ a .previousMatch, k .before .before .before .next-match .given ∙ a .nextMatch),
+    )
+
+-- each slice has its length at exit
+module _ (k : tie.After-slice-known15) where
+  abbrev cleared : tie.After-clear-tables
+  cleared = k .before .before .before .before .before .before .before .before
+
+  abbrev entry : Lent
+  entry = before (start (told (built cleared)))
+
+  same-previous : length (after cleared .tables .previous) ≡ length (entry .tables .previous)
+  same-previous = k .before .before .before .before .before .before .before .previous2 .given ∙ left cleared .before .before .before .before .before .before .before .before .before .previous .given
+
+  same-next : length (after cleared .tables .next) ≡ length (entry .tables .next)
+  same-next = k .before .before .before .before .before .next2 .given ∙ left cleared .before .before .before .before .before .before .before .next .given
+
+  same-previous-match : length (after cleared .tables .previousMatch) ≡ length (entry .tables .previousMatch)
+  same-previous-match = k .before .before .before .previous-match2 .given ∙ left cleared .before .before .before .before .before .previous-match .given
+
+  same-next-match : length (after cleared .tables .nextMatch) ≡ length (entry .tables .nextMatch)
+  same-next-match = k .before .next-match2 .given ∙ left cleared .before .before .before .next-match .given
+
+  same-tree : length (after cleared .tree) ≡ length (entry .tree)
+  same-tree = left cleared .before .tree2 .given ∙ built cleared .before .before .before .before .before .before .before .tree .given
 
 -- all rows, and none from there on
 exact : (t : tie.After-clear-tables) → let s = start (told (built t)) in buildState (built t .build-rows .result) (after t .tables) ≡ afterRows (s .args .letters .now) (s .args .rows)
@@ -69,5 +98,23 @@ returns-3 c =
 pub build-spec : {M : Type 1} → statement M
 build-spec =
     tie.close
-    (tie.spec (λ c κs. search needs) (λ c. search needs) returns (λ c. search needs) (λ c κs. search needs) build-rows-requires clear-tables-requires (λ c. search needs) (λ c. search needs) (λ c. search needs) (λ c. search needs) (λ c. search needs) returns-2
-    (λ c. search needs) (λ c. search needs) (λ c. search needs) (λ c. search needs) (λ c. search needs) returns-3)
+    (tie.spec
+    (λ c κs. tt)
+    (λ c. search needs)
+    returns
+    (λ c. search needs)
+    (λ c κs. tt)
+    build-rows-requires
+    clear-tables-requires
+    (λ c. same-previous (c .before))
+    (λ c. same-next (c .before))
+    (λ c. same-previous-match (c .before))
+    (λ c. same-next-match (c .before))
+    (λ c. same-tree (c .before))
+    returns-2
+    (λ c. same-previous (c .before))
+    (λ c. same-next (c .before))
+    (λ c. same-previous-match (c .before))
+    (λ c. same-next-match (c .before))
+    (λ c. same-tree (c .before))
+    returns-3)

@@ -1,39 +1,40 @@
 -- `build::build_rows` meets its contract: each way through its two loops is a law of proofs/Invariants.antt.
-use mathlib.Core.Path.{_≡_, refl, sym, ap, ap₂, _∙_}
+use mathlib.Core.Path.{_≡_, refl, sym, ap, _∙_}
 use mathlib.Core.Logic.{_≢_}
-use Prim.Native.Nat.{_-_, _≤_, _<_}
+use mathlib.Core.List.{List}
+use Prim.Native.Nat.{ℕ, _-_, _≤_, _<_}
 use native.Mathlib.Omega.{arith}
-use lib.ListN.{length, getD, length-set, length-replicate}
+use lib.ListN.{length, getD, set, length-set, length-replicate}
 use Rattle.suffix.specs.Tree.{treeBytes}
 use Rattle.suffix.proofs.Bytes.{bytes-length, no-bytes}
 use Rattle.reuse.specs.Steps.{recordPrevious, recordNext}
 use Rattle.reuse.proofs.Row.{Sizes}
-use Rattle.build.specs.States.{tablesOf, clearedTables, buildState}
+use Rattle.build.specs.States.{tablesOf}
 use Rattle.build.proofs.Invariants.{AtRows, AtWalk}
 use Rattle.build.proofs.Invariants as law
 use Rattle.build.proofs.build_rows.Statement.{statement}
 use Rattle.build.proofs.build_rows.Tie as tie
 
 abbrev Inv-walk : tie.InvT-walk
-Inv-walk letters rows previous₀ next₀ previous-match₀ next-match₀ tree n state₀ bit₀ r l₀ m₀ known₀ previous next previous-match next-match state bit l m known =
+Inv-walk letters rows previous next₀ previous-match next-match₀ tree n state₀ bit₀ r l₀ m₀ known₀ next next-match state bit l m known =
     AtWalk letters rows r state (tablesOf previous next previous-match next-match) tree bit l m known
 
 abbrev μ-walk : tie.MeasureT-walk
-μ-walk letters rows previous₀ next₀ previous-match₀ next-match₀ tree n state₀ bit₀ r l₀ m₀ known₀ previous next previous-match next-match state bit l m known = l
+μ-walk letters rows previous next₀ previous-match next-match₀ tree n state₀ bit₀ r l₀ m₀ known₀ next next-match state bit l m known = l
 
 abbrev Inv-rows : tie.InvT-rows
-Inv-rows letters rows previous₀ next₀ previous-match₀ next-match₀ tree₀ n state₀ bit₀ previous next previous-match next-match tree state bit =
-    AtRows letters rows state (tablesOf previous next previous-match next-match) tree bit
+Inv-rows letters rows previous₀ next₀ previous-match₀ next-match₀ tree₀ n state₀ bit₀ p₀ v₀ previous next previous-match next-match tree state bit p v =
+    AtRows letters rows state (tablesOf previous next previous-match next-match) p v tree bit
 
 abbrev μ-rows : tie.MeasureT-rows
-μ-rows letters rows previous₀ next₀ previous-match₀ next-match₀ tree₀ n state₀ bit₀ previous next previous-match next-match tree state bit = rows - state .rows
+μ-rows letters rows previous₀ next₀ previous-match₀ next-match₀ tree₀ n state₀ bit₀ p₀ v₀ previous next previous-match next-match tree state bit p v = rows - state .rows
 
--- ---- the walk: previous[l] is read, next[l] is recorded, the suffix at r is the smaller, the pair is settled, the head
+-- ---- the way back: next[l] is recorded, the suffix at r is the smaller, the pair is settled, the head of the walk, the row is recorded, the head of the rows
 
-abbrev recorded : tie.After-read Inv-walk μ-walk Inv-rows μ-rows → tie.After-record-entry4 Inv-walk μ-walk Inv-rows μ-rows
+abbrev recorded : tie.After-read Inv-walk μ-walk Inv-rows μ-rows → tie.After-record-entry3 Inv-walk μ-walk Inv-rows μ-rows
 recorded p = p .before .before .before .before .before .before
 
-abbrev right : tie.After-record-entry4 Inv-walk μ-walk Inv-rows μ-rows → tie.Else3 Inv-walk μ-walk Inv-rows μ-rows
+abbrev right : tie.After-record-entry3 Inv-walk μ-walk Inv-rows μ-rows → tie.Else3 Inv-walk μ-walk Inv-rows μ-rows
 right i = i .before .before .before
 
 abbrev settled : tie.Else3 Inv-walk μ-walk Inv-rows μ-rows → tie.After-settle Inv-walk μ-walk Inv-rows μ-rows
@@ -45,29 +46,23 @@ head S = S .before .before .before .before
 abbrev pended : tie.At-walk Inv-walk μ-walk Inv-rows μ-rows → tie.After-record-entry2 Inv-walk μ-walk Inv-rows μ-rows
 pended a = a .before .before .before .before .before .before
 
-abbrev rows-head : tie.After-record-entry2 Inv-walk μ-walk Inv-rows μ-rows → tie.At-rows Inv-walk μ-walk Inv-rows μ-rows
-rows-head p = p .before .before .before .before .before .before .before
+abbrev row : tie.After-record-entry2 Inv-walk μ-walk Inv-rows μ-rows → tie.After-record-entry Inv-walk μ-walk Inv-rows μ-rows
+row p = p .before .before .before .before .before .before .before
+
+abbrev bit-set : tie.After-record-entry Inv-walk μ-walk Inv-rows μ-rows → tie.After-set-bit Inv-walk μ-walk Inv-rows μ-rows
+bit-set e = e .before .before .before .before .before
+
+abbrev rows-head : tie.After-record-entry Inv-walk μ-walk Inv-rows μ-rows → tie.At-rows Inv-walk μ-walk Inv-rows μ-rows
+rows-head e = bit-set e .before .before
 
 abbrev rows-start : tie.At-rows Inv-walk μ-walk Inv-rows μ-rows → tie.Start Inv-walk μ-walk Inv-rows μ-rows
-rows-start h = h .before .before .before .before .before .before .before .before .before .before .before .before .before .before .before
+rows-start h = h .before .before .before .before .before .before .before .before
 
 abbrev start : tie.At-walk Inv-walk μ-walk Inv-rows μ-rows → tie.Start Inv-walk μ-walk Inv-rows μ-rows
-start a = rows-start (rows-head (pended a))
+start a = rows-start (rows-head (row (pended a)))
 
 few : (a : tie.At-walk Inv-walk μ-walk Inv-rows μ-rows) → length (start a .args .letters .now) ≤ 1000000
 few a = start a .pre .0 .0
-
-match-few : (S : tie.After-settle Inv-walk μ-walk Inv-rows μ-rows) → S .settle .result .matched ≤ 1000000
-match-few S = omega (arith, law.match-fits (head S .walk .inv) (S .settle .result) (S .settle .ensures), few (head S))
-
-some : (e : tie.Else4 Inv-walk μ-walk Inv-rows μ-rows) → let a = head (settled (right (recorded (e .before)))) in getD (a .walk .previous) (a .walk .l) 0 ≢ length (start a .args .letters .now)
-some e = rw (e .before .read .ensures .0) at (e .if4 .left)
-
-falls : (e : tie.Else4 Inv-walk μ-walk Inv-rows μ-rows) → e .before .read .result < head (settled (right (recorded (e .before)))) .walk .l
-falls e =
-    let f = right (recorded (e .before)) in
-    let S = settled f in
-    omega (arith, e .before .read .ensures .0, law.falls (head S .walk .inv) (S .settle .result) (S .settle .ensures) (f .if3 .left) (some e))
 
 -- ---- the needs
 
@@ -80,117 +75,119 @@ returns c =
     let s = c .before .before .before .before .before .before .before in
     rw (c .if1 .taken) (law.no-rows _ _ (sizes s), (s .pre .1 .1 ∙ no-bytes _, refl))
 
-record-entry-requires : tie.Need-record-entry-requires Inv-walk μ-walk Inv-rows μ-rows
-record-entry-requires c κs = let p = c .before .before .before .before .before .before .before .before .before .pre in (omega (arith, p), omega (arith, p), p .0 .0, omega arith)
-
 rows-holds : tie.Need-rows-holds Inv-walk μ-walk Inv-rows μ-rows
-unfolding recordPrevious
 rows-holds c =
-    let e = c .before .before .before .before in
-    let s = e .before .before .before .before .before .before .before .before .before .before in
-    rw (e .record-entry .ensures .0, e .record-entry .ensures .1) (law.first-row _ _ (sizes s) _ _ (omega arith) (s .pre .0 .1) (s .pre .1 .1))
+    let s = c .before .before .before .before .before .before .before in
+    law.first-row _ _ (sizes s) _ _ (omega arith) (s .pre .0 .1) (s .pre .1 .1)
 
 set-bit-requires : tie.Need-set-bit-requires Inv-walk μ-walk Inv-rows μ-rows
 set-bit-requires c κs = (law.byte-in (c .before .rows .inv), law.byte-room (c .before .rows .inv))
 
+record-entry-requires : tie.Need-record-entry-requires Inv-walk μ-walk Inv-rows μ-rows
+record-entry-requires c κs =
+    let h = c .before .before .before .before .before .before in
+    let A = h .rows .inv in
+    let p = rows-start h .pre .0 .0 in
+    (omega (arith, A .pos, A .most, A .fits, A .sizes .previous), omega (arith, A .pos, A .most, A .fits, A .sizes .previousMatch), omega (arith, A .entry-fits), omega (arith, A .match-fits))
+
 record-entry-requires-2 : tie.Need-record-entry-requires-2 Inv-walk μ-walk Inv-rows μ-rows
 record-entry-requires-2 c κs =
-    let h = c .before .before .before .before .before .before in
+    let h = rows-head (c .before .before .before .before .before .before) in
     let A = h .rows .inv in
     let p = rows-start h .pre .0 .0 in
     (omega (arith, A .pos, A .most, A .fits, A .sizes .next), omega (arith, A .pos, A .most, A .fits, A .sizes .nextMatch), p, omega arith)
 
+-- the entries of the row are recorded
+row-recorded : (e : tie.After-record-entry2 Inv-walk μ-walk Inv-rows μ-rows) → let h = rows-head (row e) .rows in
+    tablesOf (row e .record-entry .last .0) (e .record-entry2 .last .0) (row e .record-entry .last .1 .0) (e .record-entry2 .last .1 .0)
+    ≡ recordNext (recordPrevious (tablesOf (h .previous) (h .next) (h .previous-match) (h .next-match)) (h .state .rows - 1) (h .p) (h .v)) (h .state .rows - 1)
+    (length (rows-start (rows-head (row e)) .args .letters .now)) 0
+unfolding recordPrevious recordNext
+row-recorded e =
+    law.tables-are (row e .record-entry .ensures .0) (e .record-entry2 .ensures .0) (row e .record-entry .ensures .1) (e .record-entry2 .ensures .1)
+
 walk-holds : tie.Need-walk-holds Inv-walk μ-walk Inv-rows μ-rows
-unfolding recordNext
 walk-holds c =
     let e = c .before .before .before .before .before in
-    let b = e .before .before .before .before .before in
-    rw (e .record-entry2 .ensures .0, e .record-entry2 .ensures .1) (law.begins (b .before .before .rows .inv) (c .if2 .left) _ (b .set-bit .ensures))
+    law.begins (rows-head (row e) .rows .inv) (c .if2 .left) (row-recorded e) (bit-set (row e) .set-bit .ensures)
 
 settle-requires : tie.Need-settle-requires Inv-walk μ-walk Inv-rows μ-rows
 settle-requires c κs =
     let W = c .before .before .before .walk .inv in
     (omega arith, ((W .sizes .next, W .sizes .previousMatch, W .sizes .nextMatch), law.safe W))
 
-record-entry-requires-6 : tie.Need-record-entry-requires-6 Inv-walk μ-walk Inv-rows μ-rows
-record-entry-requires-6 c κs =
-    let S = settled (right (recorded (c .before .before .before .before .before .before))) in
-    let W = head S .walk .inv in
-    (omega arith, omega arith, omega (arith, falls (c .before .before .before .before .before), few (head S)), omega (arith, match-few S))
+record-entry-requires-3 : tie.Need-record-entry-requires-3 Inv-walk μ-walk Inv-rows μ-rows
+record-entry-requires-3 c κs =
+    let S = c .before .before .before .before in
+    let m = law.match-fits (head S .walk .inv) (S .settle .result) (S .settle .ensures) in
+    let n = few (head S) in
+    (omega arith, omega arith, omega arith, omega arith)
+
+advances : (S : tie.After-settle Inv-walk μ-walk Inv-rows μ-rows) → let a = head S in
+    rows-start (rows-head (row (pended a))) .args .rows - S .settle .result .state .rows < rows-start (rows-head (row (pended a))) .args .rows - rows-head (row (pended a)) .rows .state .rows
+advances S = law.advances (head S .walk .inv) (S .settle .result) (S .settle .ensures)
 
 rows-again : tie.Need-rows-again Inv-walk μ-walk Inv-rows μ-rows
-unfolding recordPrevious
-rows-again c =
-    let S = c .before .before .before .before .before .before .before .before .before in
-    let j = c .before .before .before .before .record-entry3 .ensures in
-    rw (j .0, j .1) (law.ends-left (head S .walk .inv) (S .settle .result) (S .settle .ensures) (c .before .before .before .before .before .before .before .if3 .taken))
+rows-again c = let S = c .before .before in law.ends-left (head S .walk .inv) (S .settle .result) (S .settle .ensures) (c .if3 .taken)
+
+-- next[l] is recorded
+next-recorded : (i : tie.After-record-entry3 Inv-walk μ-walk Inv-rows μ-rows) → let S = settled (right i) in let a = head S in
+    tablesOf (row (pended a) .record-entry .last .0) (i .record-entry3 .last .0) (row (pended a) .record-entry .last .1 .0) (i .record-entry3 .last .1 .0)
+    ≡ recordNext (tablesOf (row (pended a) .record-entry .last .0) (a .walk .next) (row (pended a) .record-entry .last .1 .0) (a .walk .next-match)) (a .walk .l)
+    (rows-head (row (pended a)) .rows .state .rows) (S .settle .result .matched)
+unfolding recordNext
+next-recorded i = law.tables-are refl (i .record-entry3 .ensures .0) refl (i .record-entry3 .ensures .1)
 
 rows-again-2 : tie.Need-rows-again-2 Inv-walk μ-walk Inv-rows μ-rows
-unfolding recordPrevious recordNext
 rows-again-2 c =
-    let p = c .before .before .before .before .before .before .before .before in
-    let f = right (recorded p) in
-    let S = settled f in
-    let i = c .before .before .before .before .before .before .before .before .before .before .before .before .before .before .record-entry4 .ensures in
-    let j = c .before .before .before .before .record-entry5 .ensures in
-    rw (i .0, i .1, j .0, j .1)
-    (law.ends-none (head S .walk .inv) (S .settle .result) (S .settle .ensures) (f .if3 .left) (sym (p .read .ensures .0) ∙ c .before .before .before .before .before .before .before .if4 .taken))
+    let i = recorded (c .before) in
+    let S = settled (right i) in
+    law.ends-none (head S .walk .inv) (S .settle .result) (S .settle .ensures) (right i .if3 .left) (next-recorded i) (c .before .read .ensures .0) (c .if4 .taken)
+
+falls : (e : tie.Else4 Inv-walk μ-walk Inv-rows μ-rows) → e .before .read .result < head (settled (right (recorded (e .before)))) .walk .l
+falls e =
+    let i = recorded (e .before) in
+    let S = settled (right i) in
+    law.falls (head S .walk .inv) (S .settle .result) (S .settle .ensures) (right i .if3 .left) (next-recorded i) (e .before .read .ensures .0) (e .if4 .left)
 
 rows-again-3 : tie.Need-rows-again-3 Inv-walk μ-walk Inv-rows μ-rows
-unfolding recordPrevious recordNext
 rows-again-3 c =
-    let e = c .before .before .before .before .before .before .before .before .before .before in
-    let f = right (recorded (e .before)) in
-    let S = settled f in
-    let i = e .before .before .before .before .before .before .before .record-entry4 .ensures in
-    let j = c .before .before .before .before .record-entry6 .ensures in
-    let v = c .before .before .before .before .before .before .before .before .read2 .ensures .0 in
-    rw (i .0, i .1, j .0, j .1, v, e .before .read .ensures .0)
-    (law.ends-less (head S .walk .inv) (S .settle .result) (S .settle .ensures) (f .if3 .left) (some e) (rw v at (c .before .before .before .before .before .before .before .if5 .taken)))
+    let e = c .before .before .before in
+    let i = recorded (e .before) in
+    let S = settled (right i) in
+    law.ends-less (head S .walk .inv) (S .settle .result) (S .settle .ensures) (right i .if3 .left) (next-recorded i) (e .before .read .ensures .0) (e .if4 .left) (c .before .read2 .ensures .0)
+    (c .if5 .taken)
 
 walk-again : tie.Need-walk-again Inv-walk μ-walk Inv-rows μ-rows
-unfolding recordNext
 walk-again c =
     let e = c .before .before .before in
-    let f = right (recorded (e .before)) in
-    let S = settled f in
-    let i = e .before .before .before .before .before .before .before .record-entry4 .ensures in
-    let v = c .before .read2 .ensures .0 in
-    rw (i .0, i .1, v, e .before .read .ensures .0)
-    (law.goes (head S .walk .inv) (S .settle .result) (S .settle .ensures) (f .if3 .left) (some e) (rw v at (c .if5 .left)))
+    let i = recorded (e .before) in
+    let S = settled (right i) in
+    law.goes (head S .walk .inv) (S .settle .result) (S .settle .ensures) (right i .if3 .left) (next-recorded i) (e .before .read .ensures .0) (e .if4 .left) (c .before .read2 .ensures .0)
+    (c .if5 .left)
 
--- where all rows are done: the head of the last one, the tree with its bit, and its next entry
+-- where all rows are done: its entries and the tree's bit are written
 module _ (c : tie.Then2 Inv-walk μ-walk Inv-rows μ-rows) where
   abbrev e : tie.After-record-entry2 Inv-walk μ-walk Inv-rows μ-rows
   e = c .before .before .before .before .before
 
   abbrev h : tie.At-rows Inv-walk μ-walk Inv-rows μ-rows
-  h = rows-head e
+  h = rows-head (row e)
 
   abbrev s : tie.Start Inv-walk μ-walk Inv-rows μ-rows
   s = rows-start h
 
-  written : e .before .before .before .before .before .set-bit .last .0 ≡ treeBytes (s .args .letters .now) (h .rows .state .rows)
-  written = e .before .before .before .before .before .set-bit .ensures ∙ law.bit-set (h .rows .inv)
+  written : bit-set (row e) .set-bit .last .0 ≡ treeBytes (s .args .letters .now) (h .rows .state .rows)
+  written = bit-set (row e) .set-bit .ensures ∙ law.bit-set (h .rows .inv)
 
-  next-length : length (e .record-entry2 .last .0) ≡ length (s .args .next .now)
-  next-length = ap length (e .record-entry2 .ensures .0) ∙ length-set (h .rows .next) _ _ ∙ h .rows .inv .sizes .next ∙ sym (s .pre .1 .0 .1)
-
-  next-match-length : length (e .record-entry2 .last .1 .0) ≡ length (s .args .next-match .now)
-  next-match-length = ap length (e .record-entry2 .ensures .1) ∙ length-set (h .rows .next-match) _ _ ∙ h .rows .inv .sizes .nextMatch ∙ sym (s .pre .1 .0 .3)
+  lengths : Sizes (s .args .letters .now) (tablesOf (row e .record-entry .last .0) (e .record-entry2 .last .0) (row e .record-entry .last .1 .0) (e .record-entry2 .last .1 .0))
+  lengths = law.recorded-sizes (h .rows .inv) (row-recorded e)
 
 returns-2 : tie.Need-returns-2 Inv-walk μ-walk Inv-rows μ-rows
-unfolding recordNext
 returns-2 c =
     let A = h c .rows .inv in
     let z : h c .rows .state .rows ≡ s c .args .rows = omega (arith, A .most, c .if2 .taken) in
-    let i = e c .record-entry2 .ensures in
-    let R = s c .args .rows in
-    let k = h c .rows in (
-      ap₂ (λ q m. buildState (k .state) (clearedTables (length (s c .args .letters .now)) R R (tablesOf (k .previous) q (k .previous-match) m))) (i .0) (i .1)
-          ∙ law.rows-are-done A R z,
-      (written c ∙ ap (treeBytes _) z, z),
-    )
+    (law.rows-are-done A (row-recorded (e c)) _ z, (written c ∙ ap (treeBytes _) z, z))
 
 pub build-rows-spec : {M : Type 1} → statement M
 build-rows-spec =
@@ -201,34 +198,32 @@ build-rows-spec =
     Inv-rows
     μ-rows
     returns
-    record-entry-requires
     rows-holds
     set-bit-requires
     (λ c. omega arith)
-    (λ c. omega arith)
+    (λ c. c .before .before .before .before .before .before .rows .inv .pos)
+    record-entry-requires
+    (λ c. rows-head (c .before .before .before .before .before .before) .rows .inv .pos)
     record-entry-requires-2
-    (λ c. omega arith)
-    (λ c. omega arith)
+    (λ c. let h = rows-head (row (c .before .before .before .before .before)) in law.one-more (h .rows .inv) (rows-start h .pre .0 .0))
+    (λ c. rows-head (row (c .before .before .before .before .before)) .rows .inv .pos)
     walk-holds
     settle-requires
-    (λ c κs. let S = c .before .before .before .before in let m = match-few S in let n = few (head S) in (omega arith, omega arith, omega arith, omega arith))
-    (λ c. omega arith)
+    (λ c. advances (c .before .before))
     rows-again
-    (λ c κs. let S = c .before .before .before .before in let m = match-few S in let n = few (head S) in (omega arith, omega arith, omega arith, omega arith))
+    record-entry-requires-3
     (λ c. let a = head (settled (right (c .before .before .before .before))) in omega (arith, a .walk .inv, few a))
-    (λ c κs. omega arith)
-    (λ c κs. (omega arith, omega arith, few (head (settled (right (recorded (c .before .before .before))))), omega arith))
-    (λ c. omega arith)
+    (λ c κs. law.l-in (head (settled (right (c .before .before .before .before .before))) .walk .inv) .0)
+    (λ c. advances (settled (right (recorded (c .before)))))
     rows-again-2
-    (λ c κs. omega arith)
-    record-entry-requires-6
-    (λ c. omega arith)
+    (λ c κs. law.l-in (head (settled (right (recorded (c .before .before)))) .walk .inv) .1)
+    (λ c. advances (settled (right (recorded (c .before .before .before .before)))))
     rows-again-3
     (λ c. falls (c .before .before .before))
     walk-again
-    (λ c. h c .rows .inv .sizes .previous ∙ sym (s c .pre .1 .0 .0))
-    next-length
-    (λ c. h c .rows .inv .sizes .previousMatch ∙ sym (s c .pre .1 .0 .2))
-    next-match-length
+    (λ c. lengths c .previous ∙ sym (s c .pre .1 .0 .0))
+    (λ c. lengths c .next ∙ sym (s c .pre .1 .0 .1))
+    (λ c. lengths c .previousMatch ∙ sym (s c .pre .1 .0 .2))
+    (λ c. lengths c .nextMatch ∙ sym (s c .pre .1 .0 .3))
     (λ c. ap length (written c) ∙ bytes-length _ _ ∙ sym (ap length (s c .pre .1 .1) ∙ length-replicate _ _))
     returns-2)
