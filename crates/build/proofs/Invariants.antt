@@ -201,6 +201,9 @@ module _ {y : List ℕ} {rows r : ℕ} {s : State} {t : Tables} {tree : List ℕ
     pub match-fits : r + u .matched ≤ length y
     match-fits = agree-fits y (W .before) (omega (arith, small)) (M .told .match .same)
 
+    pub next-fits : length y ≤ 1000000 → (l < length (t .next)) × (l < length (t .nextMatch)) × (r ≤ 1000000) × (u .matched ≤ 1000000)
+    next-fits n = (omega (arith, W .before, small, W .sizes .next), omega (arith, W .before, small, W .sizes .nextMatch), omega (arith, small), omega (arith, match-fits))
+
     -- previous[r] is v with match w: the row is done
     done : (t′ : Tables) (bit′ v w : ℕ) → bit′ + level y v ≡ r + r → v ≤ length y → w ≤ length y → Sizes y t′
         → buildState (u .state) (recordPrevious (clearedTables (length y) r t′) r v w) ≡ afterRows y (suc r) → AtRows y rows (u .state) t′ v w tree bit′

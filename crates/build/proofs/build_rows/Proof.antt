@@ -112,16 +112,10 @@ walk-holds c =
     law.begins (rows-head (row e) .rows .inv) (c .if2 .left) (row-recorded e) (bit-set (row e) .set-bit .ensures)
 
 settle-requires : tie.Need-settle-requires Inv-walk μ-walk Inv-rows μ-rows
-settle-requires c κs =
-    let W = c .before .before .before .walk .inv in
-    (omega arith, ((W .sizes .next, W .sizes .previousMatch, W .sizes .nextMatch), law.safe W))
+settle-requires c κs = let a = c .before .before .before in (few a, ((a .walk .inv .sizes .next, a .walk .inv .sizes .previousMatch, a .walk .inv .sizes .nextMatch), law.safe (a .walk .inv)))
 
 record-entry-requires-3 : tie.Need-record-entry-requires-3 Inv-walk μ-walk Inv-rows μ-rows
-record-entry-requires-3 c κs =
-    let S = c .before .before .before .before in
-    let m = law.match-fits (head S .walk .inv) (S .settle .result) (S .settle .ensures) in
-    let n = few (head S) in
-    (omega arith, omega arith, omega arith, omega arith)
+record-entry-requires-3 c κs = let S = settled (c .before .before) in law.next-fits (head S .walk .inv) (S .settle .result) (S .settle .ensures) (few (head S))
 
 advances : (S : tie.After-settle Inv-walk μ-walk Inv-rows μ-rows) → let a = head S in
     rows-start (rows-head (row (pended a))) .args .rows - S .settle .result .state .rows < rows-start (rows-head (row (pended a))) .args .rows - rows-head (row (pended a)) .rows .state .rows
