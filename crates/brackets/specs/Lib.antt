@@ -1,4 +1,1 @@
-pub mod Shape
 pub mod Answers
-pub mod Claims
-pub mod Searching

@@ -1,35 +1,15 @@
-// Trees of brackets in lent bytes: a verdict on one, its two tables, and questions put to it.
+// Trees of brackets in lent bytes: a verdict on one, and its two tables.
 ghost use mathlib.Core.Path.{_≡_};
 ghost use Prim.Native.Nat.{_≤_};
 ghost use lib.ListN.{length};
 ghost use Rattle.suffix.specs.Tree.{treeLength};
 ghost use Rattle.refusal.specs.Numbers.{verdictNumber};
-ghost use Rattle.refusal.specs.Conditions.{spareBitSet, treeRefusal, questionRefusal};
-ghost use Rattle.brackets.specs.Shape.{previousTable, nextTable};
-ghost use Rattle.brackets.specs.Answers.{
-  figuresOf,
-  flawNumber,
-  placeAnswer,
-  nextAnswer,
-  previousAnswer,
-  ReadBack,
-};
-use bits::bit;
-use openings::select;
+ghost use Rattle.refusal.specs.Conditions.{spareBitSet, flawNumber, treeRefusal};
+ghost use Rattle.shape.specs.Shape.{previousTable, nextTable};
+ghost use Rattle.brackets.specs.Answers.{ReadBack};
+use excess::bit;
 use refusal::Refusal;
 use refusal::Verdict;
-use search::fell;
-use search::is_closed;
-use search::search_from;
-
-mod bits;
-mod openings;
-mod search;
-
-pub enum Answer {
-    Value(usize),
-    NoValue(Refusal),
-}
 
 fn spare_bit_set(n: usize, tree: &[u8]) -> bool
     requires { ⌜ (n ≤ 1000000) × (length (now tree) ≡ treeLength n) ⌝ }
@@ -50,11 +30,11 @@ fn flaw(n: usize, tree: &[u8]) -> Verdict
     if spare_bit_set(n, tree) {
         return Verdict::Refused(Refusal::SpareBitSet);
     }
-    let s = search_from(tree, 0, 2 * n, false);
-    if fell(s) {
+    let found = search::forward(tree, 0, 2 * n);
+    if found.fell {
         return Verdict::Refused(Refusal::ClosedTooEarly);
     }
-    if is_closed(s) {
+    if found.closed {
         return Verdict::Accepted;
     }
     Verdict::Refused(Refusal::LeftOpen)
@@ -128,68 +108,6 @@ pub fn read(n: usize, tree: &[u8], previous: &mut [u32], next: &mut [u32]) -> Ve
         Verdict::Accepted => {
             fill_tables(n, tree, previous, next);
             Verdict::Accepted
-        }
-    }
-}
-
-// Refusals 1, 3, 5, 6, 7, 8 of a question.
-fn question(n: usize, tree: &[u8], position: usize) -> Verdict
-    ensures { λ r. ⌜ verdictNumber r ≡ questionRefusal n (now (tree .entry)) position ⌝ }
-{
-    if n > 1000000 {
-        return Verdict::Refused(Refusal::TooLong);
-    }
-    if tree.len() != (n + 3) / 4 {
-        return Verdict::Refused(Refusal::TreeLength);
-    }
-    if position >= n {
-        return Verdict::Refused(Refusal::PositionOutside);
-    }
-    flaw(n, tree)
-}
-
-// The bit place of the opening of a position.
-pub fn place_of(n: usize, tree: &[u8], position: usize) -> Answer
-    ensures { λ r. ⌜ figuresOf r ≡ placeAnswer n (now (tree .entry)) position ⌝ }
-{
-    let verdict = question(n, tree, position);
-    match verdict {
-        Verdict::Refused(k) => Answer::NoValue(k),
-        Verdict::Accepted => {
-            let at = select(tree, position);
-            Answer::Value(at)
-        }
-    }
-}
-
-// The next entry of a position: the positions up to where its bracket closes.
-pub fn next_of(n: usize, tree: &[u8], position: usize) -> Answer
-    ensures { λ r. ⌜ figuresOf r ≡ nextAnswer n (now (tree .entry)) position ⌝ }
-{
-    let found = place_of(n, tree, position);
-    match found {
-        Answer::NoValue(_) => found,
-        Answer::Value(place) => {
-            let s = search_from(tree, place + 1, 2 * n, false);
-            Answer::Value(position + (s.at - place) / 2)
-        }
-    }
-}
-
-// The previous entry of a position: the position whose bracket encloses it, or n.
-pub fn previous_of(n: usize, tree: &[u8], position: usize) -> Answer
-    ensures { λ r. ⌜ figuresOf r ≡ previousAnswer n (now (tree .entry)) position ⌝ }
-{
-    let found = place_of(n, tree, position);
-    match found {
-        Answer::NoValue(_) => found,
-        Answer::Value(place) => {
-            let s = search_from(tree, place, 0, true);
-            if fell(s) {
-                Answer::Value(position - (place - s.at + 1) / 2)
-            } else {
-                Answer::Value(n)
-            }
         }
     }
 }

@@ -2,7 +2,7 @@
 use mathlib.Core.Path.{_≡_, refl, sym, ap, ap₂, _∙_}
 use mathlib.Core.List.{List}
 use Prim.Native.Nat.{ℕ, _≤_, _<_}
-use native.Mathlib.Omega.{arith}
+use native.Mathlib.Nat.{le-trans, lt-of-lt-of-le}
 use lib.ListN.{length, getD}
 use borrow.Author.Tests.{eq-eqb}
 use Rattle.suffix.specs.Search.{tabulate}
@@ -13,9 +13,9 @@ use Rattle.refusal.specs.Numbers.{lowest, lowestFrom}
 use Rattle.refusal.specs.Conditions.{readRefusal, treeRefusal}
 use Rattle.build.specs.Built.{Lent, lentAfter, refusalOf, lentAtExit}
 use Rattle.build.proofs.Answers.{accepted}
-use Rattle.brackets.specs.Claims.{ReadsAs, forNone}
+use Rattle.shape.specs.Claims.{ReadsAs, forNone}
 use Rattle.brackets.specs.Answers as brackets
-use Rattle.brackets.proofs.Laws.{finishedTree, haltedTree, haltedTreeIsRefused}
+use Rattle.shape.proofs.Laws.{finishedTree, haltedTree, haltedTreeIsRefused}
 use Rattle.lyndon.specs.Claims.{Fits, Reads, BuiltThenRead, HaltedThenRefused, HaltedThenRead}
 
 -- what a build that is not refused leaves
@@ -51,10 +51,10 @@ pub haltedThenRead : HaltedThenRead
 unfolding lentAfter tablesAfter
 haltedThenRead letters R before after tables e z F =
     let a = accepted letters R before e in
-    reads R _ _ _ tables F (rw (z, left letters R before e, seen (previousAfter letters R) (a .rows), seen (nextAfter letters R) (a .rows)) (haltedTree letters R (a .rows) (omega (arith, a .few, a .rows))))
+    reads R _ _ _ tables F (rw (z, left letters R before e, seen (previousAfter letters R) (a .rows), seen (nextAfter letters R) (a .rows)) (haltedTree letters R (a .rows) (le-trans (a .rows) (a .few))))
   where
     n : ℕ
     n = length letters
 
     seen : (f : ℕ → ℕ) → R ≤ n → tabulate R (λ i. forNone n R (getD (tabulate n f) i 0)) ≡ tabulate R (λ i. forNone n R (f i))
-    seen f h = tabulate-same (λ i. forNone n R (getD (tabulate n f) i 0)) (λ i. forNone n R (f i)) R (λ i k. ap (forNone n R) (tabulate-entry f n i (omega arith)))
+    seen f h = tabulate-same (λ i. forNone n R (getD (tabulate n f) i 0)) (λ i. forNone n R (f i)) R (λ i k. ap (forNone n R) (tabulate-entry f n i (lt-of-lt-of-le k h)))

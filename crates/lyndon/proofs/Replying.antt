@@ -7,15 +7,16 @@ use Rattle.build.specs.Built as build
 use Rattle.refusal.specs.declared.Verdict.{Verdict}
 use Rattle.refusal.specs.Numbers.{verdictNumber}
 use Rattle.brackets.specs.Answers as brackets
+use Rattle.questions.specs.Answers as questions
 use Rattle.lyndon.specs.declared.BuildReply.{BuildReply}
 use Rattle.lyndon.specs.declared.Reply.{Reply}
 use Rattle.lyndon.specs.Replies.{buildReply, BuildReplied, ReadReplied, reply}
 
--- a build that answers with b, and a reply with the figures of b
+-- a build that answers with a, and a reply with the figures of a
 pub built :
-    {letters : List ℕ} {R : ℕ} {before after : build.Lent} {a b : Built} {given : BuildReply} → build.BuiltExactly letters R before after a → a ≡ b
-    → given ≡ buildReply (build.figuresOf b) → BuildReplied letters R before after given
-built e q z = record { replies = z ∙ ap (λ k. buildReply (build.figuresOf k)) (sym q) ∙ ap buildReply (e .answers); leaves = e .leaves }
+    {letters : List ℕ} {R : ℕ} {before after : build.Lent} {a : Built} {given : BuildReply} → build.BuiltExactly letters R before after a
+    → given ≡ buildReply (build.figuresOf a) → BuildReplied letters R before after given
+built e z = record { replies = z ∙ ap buildReply (e .answers); leaves = e .leaves }
 
 -- a reading with the verdict b, and its number
 pub read :
@@ -24,5 +25,5 @@ pub read :
 read e q z = record { replies = z ∙ ap verdictNumber (sym q) ∙ e .answers; leaves = e .leaves }
 
 -- a question
-pub answered : {given : Reply} {a b : brackets.Figures} → given ≡ reply a → a ≡ b → given ≡ reply b
+pub answered : {given : Reply} {a b : questions.Figures} → given ≡ reply a → a ≡ b → given ≡ reply b
 answered z e = z ∙ ap reply e

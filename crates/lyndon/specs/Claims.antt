@@ -6,7 +6,7 @@ use Prim.Native.Nat.{ℕ, _<_}
 use lib.ListN.{length, getD}
 use Rattle.suffix.specs.Search.{tabulate}
 use Rattle.build.specs.Built.{Lent, refusalOf, lentAtExit}
-use Rattle.brackets.specs.Claims.{firstBytes, forNone}
+use Rattle.shape.specs.Claims.{firstBytes, forNone}
 use Rattle.brackets.specs.Answers as brackets
 
 -- two tables of n entries are lent to a reader

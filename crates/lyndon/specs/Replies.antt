@@ -6,6 +6,7 @@ use lib.ListN.{length}
 use Rattle.refusal.specs.Conditions.{wordRefusal}
 use Rattle.build.specs.Built as build
 use Rattle.brackets.specs.Answers as brackets
+use Rattle.questions.specs.Answers as questions
 use Rattle.word.specs.Word.{wordPart, wordStart}
 use Rattle.lyndon.specs.declared.BuildReply.{BuildReply}
 use Rattle.lyndon.specs.declared.Reply.{Reply}
@@ -28,9 +29,9 @@ pub record ReadReplied (n : ℕ) (tree : List ℕ) (before after : brackets.Lent
   pub leaves : after ≡ brackets.lentAtExit n tree before
 
 -- a question put to a tree
-unfoldable pub reply : brackets.Figures → Reply
-reply (brackets.value v) = record { refusal = 0; value = v }
-reply (brackets.refused number) = record { refusal = number; value = 0 }
+unfoldable pub reply : questions.Figures → Reply
+reply (questions.value v) = record { refusal = 0; value = v }
+reply (questions.refused number) = record { refusal = number; value = 0 }
 
 -- the longest Lyndon word: where it starts in the letters, and its length
 abbrev pub wordReply : List ℕ → ℕ → PartReply

@@ -1,10 +1,10 @@
 // The exported functions: each passes its arguments on to the crate that does the work.
 ghost use mathlib.Core.Path.{_≡_};
-ghost use Rattle.build.specs.Built.{lent};
-ghost use Rattle.brackets.specs.Answers.{figuresOf, previousAnswer, nextAnswer, placeAnswer};
-ghost use Rattle.lyndon.specs.Replies.{BuildReplied, ReadReplied, reply, wordReply};
-use brackets::Answer;
+ghost use Rattle.build.specs.Built.{lent, figuresOf as builtFigures};
+ghost use Rattle.questions.specs.Answers.{figuresOf, previousAnswer, nextAnswer, placeAnswer};
+ghost use Rattle.lyndon.specs.Replies.{BuildReplied, ReadReplied, buildReply, reply, wordReply};
 use build::Built;
+use questions::Answer;
 use refusal::Verdict;
 
 #[repr(C)]
@@ -29,31 +29,9 @@ pub struct PartReply {
     pub length: usize,
 }
 
-#[no_mangle]
-pub extern "C" fn lyndon_build(
-    letters: &[u8],
-    rows: usize,
-    previous: &mut [u32],
-    next: &mut [u32],
-    previous_match: &mut [u32],
-    next_match: &mut [u32],
-    tree: &mut [u8],
-) -> BuildReply
-    ensures { λ r.
-        ⌜ BuildReplied (now (letters .entry)) rows
-        (lent (now (previous .entry)) (now (next .entry)) (now («previous_match» .entry)) (now («next_match» .entry)) (now (tree .entry)))
-        (lent (now (previous .exit)) (now (next .exit)) (now («previous_match» .exit)) (now («next_match» .exit)) (now (tree .exit)))
-        r ⌝ }
+fn build_reply(built: Built) -> BuildReply
+    ensures { λ r. ⌜ r ≡ buildReply (builtFigures built) ⌝ }
 {
-    let built = build::build(
-        letters,
-        rows,
-        previous,
-        next,
-        previous_match,
-        next_match,
-        tree,
-    );
     match built {
         Built::Finished(k) => BuildReply {
             refusal: 0,
@@ -77,6 +55,33 @@ pub extern "C" fn lyndon_build(
             reach: 0,
         },
     }
+}
+
+#[no_mangle]
+pub extern "C" fn lyndon_build(
+    letters: &[u8],
+    rows: usize,
+    previous: &mut [u32],
+    next: &mut [u32],
+    previous_match: &mut [u32],
+    next_match: &mut [u32],
+    tree: &mut [u8],
+) -> BuildReply
+    ensures { λ r.
+        ⌜ BuildReplied (now (letters .entry)) rows
+        (lent (now (previous .entry)) (now (next .entry)) (now («previous_match» .entry)) (now («next_match» .entry)) (now (tree .entry)))
+        (lent (now (previous .exit)) (now (next .exit)) (now («previous_match» .exit)) (now («next_match» .exit)) (now (tree .exit)))
+        r ⌝ }
+{
+    build_reply(build::build(
+        letters,
+        rows,
+        previous,
+        next,
+        previous_match,
+        next_match,
+        tree,
+    ))
 }
 
 #[no_mangle]
@@ -112,21 +117,21 @@ fn reply_of(answer: Answer) -> Reply
 pub extern "C" fn lyndon_previous(n: usize, tree: &[u8], position: usize) -> Reply
     ensures { λ r. ⌜ r ≡ reply (previousAnswer n (now (tree .entry)) position) ⌝ }
 {
-    reply_of(brackets::previous_of(n, tree, position))
+    reply_of(questions::previous_of(n, tree, position))
 }
 
 #[no_mangle]
 pub extern "C" fn lyndon_next(n: usize, tree: &[u8], position: usize) -> Reply
     ensures { λ r. ⌜ r ≡ reply (nextAnswer n (now (tree .entry)) position) ⌝ }
 {
-    reply_of(brackets::next_of(n, tree, position))
+    reply_of(questions::next_of(n, tree, position))
 }
 
 #[no_mangle]
 pub extern "C" fn lyndon_place(n: usize, tree: &[u8], position: usize) -> Reply
     ensures { λ r. ⌜ r ≡ reply (placeAnswer n (now (tree .entry)) position) ⌝ }
 {
-    reply_of(brackets::place_of(n, tree, position))
+    reply_of(questions::place_of(n, tree, position))
 }
 
 #[no_mangle]

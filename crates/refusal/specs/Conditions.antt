@@ -6,7 +6,7 @@ use lib.Dec.{eqb, ltb, leb}
 use lib.ListN.{length, getD}
 use Rattle.suffix.specs.Search.{anyBelow, countBelow}
 use Rattle.suffix.specs.Tree.{treeLength}
-use Rattle.refusal.specs.Numbers.{lowest}
+use Rattle.refusal.specs.Numbers.{lowest, lowestFrom}
 
 -- "1: n above 1,000,000."
 abbrev pub tooLong : ℕ → Bool
@@ -54,6 +54,10 @@ closedTooEarly n t = anyBelow (suc (2 * n)) (λ k. ltb (openings t k) (closings 
 -- "8: no such place, but not all are closed."
 unfoldable pub leftOpen : ℕ → List ℕ → Bool
 leftOpen n t = not (closedTooEarly n t) && ltb (closings t (2 * n)) (openings t (2 * n))
+
+-- what whoever wrote the tree got wrong: 6, 7 or 8, else 0
+abbrev pub flawNumber : ℕ → List ℕ → ℕ
+flawNumber n t = lowestFrom 6 (spareBitSet n t ∷ closedTooEarly n t ∷ leftOpen n t ∷ [])
 
 -- "Build: 1 to 4.", of so many rows of n letters; "four tables for the build", of these lengths, and a tree of so many bytes
 unfoldable pub buildRefusal : (n rows previous next previousMatch nextMatch bytes : ℕ) → ℕ

@@ -6,12 +6,12 @@ use Prim.Native.Nat.{ℕ, suc, _+_, _-_, _*_, _/_, _%_, _≤_, _<_}
 use native.Mathlib.Omega.{arith}
 use lib.ListN.{length, getD, set}
 use Rattle.refusal.specs.Conditions.{bitOf}
-use Rattle.brackets.specs.Shape.{previousTable, nextTable}
-use Rattle.brackets.specs.Searching.{opened}
-use Rattle.brackets.proofs.Heights.{opened-none, opens, shuts}
-use Rattle.brackets.proofs.Reading.{Balanced, Reading, reading-start, opened-lt, read-open, top-lt, read-close}
-use Rattle.brackets.proofs.Entries.{read-tables}
-use Rattle.brackets.proofs.Conditions.{sound}
+use Rattle.shape.specs.Shape.{previousTable, nextTable}
+use Rattle.shape.specs.Heights.{opened}
+use Rattle.shape.proofs.Heights.{opened-none, opens, shuts}
+use Rattle.shape.proofs.Reading.{Balanced, Reading, reading-start, opened-lt, read-open, top-lt, read-close}
+use Rattle.shape.proofs.Entries.{read-tables}
+use Rattle.shape.proofs.Conditions.{sound}
 use Rattle.brackets.proofs.fill_tables.Statement.{statement}
 use Rattle.brackets.proofs.fill_tables.Tie as tie
 
@@ -108,9 +108,6 @@ same-length-2 c = let b = c .before .before in same-next (s b) (F b)
 returns : tie.Need-returns Inv-loop2 μ-loop2 Inv-loop μ-loop
 returns c = let b = c .before .before in tables (s b) (F b) (c .if1 .taken)
 
-bit-requires : tie.Need-bit-requires Inv-loop2 μ-loop2 Inv-loop μ-loop
-bit-requires c κs = c .before .loop2-test .taken
-
 -- a bit was looked at
 module _ (c : tie.After-bit Inv-loop2 μ-loop2 Inv-loop μ-loop) where
   abbrev b : tie.At-loop2 Inv-loop2 μ-loop2 Inv-loop μ-loop
@@ -123,7 +120,7 @@ module _ (c : tie.After-bit Inv-loop2 μ-loop2 Inv-loop μ-loop) where
   unfolding bitOf
   bit-is =
       let x : k b / 8 ≡ j b = omega (arith, c .before .before .loop2-test .taken) in
-      let z : k b % 8 ≡ b .loop2 .m = omega (arith, c .before .before .loop2-test .taken) in
+      let z : k b % 8 ≡ b .loop2 .m % 8 = omega (arith, c .before .before .loop2-test .taken) in
       rw (x, z) (sym (c .bit .ensures))
 
 add-m : tie.Need-add-m Inv-loop2 μ-loop2 Inv-loop μ-loop
@@ -248,7 +245,7 @@ fill-tables-spec =
     same-length
     same-length-2
     returns
-    bit-requires
+    (λ c κs. tt)
     add-m
     cast-previous
     mul-previous

@@ -7,8 +7,9 @@ use borrow.Author.Needs.{needs}
 use lib.ListN.{length}
 use Rattle.refusal.specs.Numbers.{verdictNumber}
 use Rattle.brackets.specs.Answers.{Lent, refusalOf}
-use Rattle.brackets.proofs.Conditions.{read-1, read-2, read-2-next, read-3, read-flaw}
-use Rattle.brackets.proofs.Answering.{accepted-of, refused-of, lent-kept, lent-read}
+use Rattle.shape.proofs.Conditions.{read-1, read-2, read-2-next, read-3, read-flaw}
+use Rattle.refusal.proofs.Numbers.{accepted-of, refused-of}
+use Rattle.brackets.proofs.Answering.{lent-kept, lent-read}
 use Rattle.brackets.proofs.read.Statement.{statement}
 use Rattle.brackets.proofs.read.Tie as tie
 

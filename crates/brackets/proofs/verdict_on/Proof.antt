@@ -2,7 +2,7 @@
 use mathlib.Core.Path.{sym, _∙_}
 use native.Mathlib.Omega.{arith}
 use borrow.Author.Needs.{needs}
-use Rattle.brackets.proofs.Conditions.{tree-1, tree-3, tree-flaw}
+use Rattle.shape.proofs.Conditions.{tree-1, tree-3, tree-flaw}
 use Rattle.brackets.proofs.verdict_on.Statement.{statement}
 use Rattle.brackets.proofs.verdict_on.Tie as tie
 

@@ -1,6 +1,5 @@
 -- `lyndon::lyndon_read` meets its contract.
 use mathlib.Core.Path.{refl}
-use borrow.Author.Needs.{needs}
 use Rattle.lyndon.proofs.Replying.{read}
 use Rattle.lyndon.proofs.lyndon_read.Statement.{statement}
 use Rattle.lyndon.proofs.lyndon_read.Tie as tie
@@ -14,4 +13,14 @@ returns-2 c = read (c .before .before .before .before .before .before .before .b
 pub lyndon-read-spec : {M : Type 1} → statement M
 lyndon-read-spec =
     tie.close
-    (tie.spec (λ c κs. search needs) (λ c. search needs) (λ c. search needs) (λ c κs. search needs) (λ c. search needs) (λ c. search needs) returns (λ c. search needs) (λ c. search needs) returns-2)
+    (tie.spec
+    (λ c κs. tt)
+    (λ c. c .match .keys1)
+    (λ c. c .match .keys2)
+    (λ c κs. tt)
+    (λ c. c .before .before .before .before .before .previous .given)
+    (λ c. c .before .before .before .next .given)
+    returns
+    (λ c. c .before .before .before .before .before .before .before .previous .given)
+    (λ c. c .before .before .before .before .before .next .given)
+    returns-2)

@@ -1,20 +1,10 @@
 -- `lyndon::reply_of` meets its contract.
 use mathlib.Core.Path.{sym, ap, _∙_}
-use borrow.Author.Needs.{needs}
-use Rattle.brackets.specs.Answers.{figuresOf, refused}
-use Rattle.brackets.specs.declared.Answer.{Answer}
+use Rattle.questions.specs.Answers.{figuresOf, refused}
+use Rattle.questions.specs.declared.Answer.{Answer}
 use Rattle.lyndon.specs.Replies.{reply}
 use Rattle.lyndon.proofs.reply_of.Statement.{statement}
 use Rattle.lyndon.proofs.reply_of.Tie as tie
-
-enum-known-answer : tie.Need-enum-known-answer
-enum-known-answer c = search needs
-
-enum-known-answer-2 : tie.Need-enum-known-answer-2
-enum-known-answer-2 c = search needs
-
-number-requires : tie.Need-number-requires
-number-requires c κs = search needs
 
 returns : tie.Need-returns
 unfolding reply
@@ -25,4 +15,4 @@ unfolding reply
 returns-2 c = ap (λ k. reply (refused k)) (c .number .ensures) ∙ sym (ap (λ (a : Answer). reply (figuresOf a)) (c .before .before .answer2 .given .1))
 
 pub reply-of-spec : {M : Type 1} → statement M
-reply-of-spec = tie.close (tie.spec enum-known-answer enum-known-answer-2 number-requires returns returns-2)
+reply-of-spec = tie.close (tie.spec (λ c. c .match .keys1) (λ c. c .match .keys2) (λ c κs. tt) returns returns-2)

@@ -1,0 +1,5 @@
+pub mod Examples
+pub mod Answering
+pub mod Counting
+pub mod Questions
+pub mod Laws

@@ -1,0 +1,6 @@
+pub mod Searching
+pub mod Signed
+pub mod Going
+pub mod Legs
+pub mod Once
+pub mod Asked

@@ -1,0 +1,79 @@
+// Searches in bytes of brackets for where their running sum falls below 0.
+ghost use mathlib.Core.Path.{_≡_};
+ghost use Prim.Native.Nat.{_≤_};
+ghost use lib.ListN.{length};
+ghost use lib.Signed.{mag};
+ghost use Rattle.refusal.specs.Conditions.{bitOf};
+ghost use Rattle.search.specs.Searching.{isMinus, isZero, isWithin, Answers};
+use sums::Search;
+use sums::fell;
+use sums::is_closed;
+use sums::search_from;
+
+mod sums;
+
+// Where a search ends, whether the sum falls below 0 there, and whether it is 0 there.
+pub struct Found {
+    pub at: usize,
+    pub fell: bool,
+    pub closed: bool,
+}
+
+// The bits lie in order in bytes that are no more than those of the largest tree.
+fn in_order(bytes: usize, from: usize, end: usize) -> bool
+    ensures { λ r. ⌜ r ≡ isWithin bytes from end ⌝ }
+{
+    if bytes > 250000 {
+        return false;
+    }
+    if end > 8 * bytes {
+        return false;
+    }
+    from <= end
+}
+
+fn found_by(s: Search) -> Found
+    requires { ⌜ mag (s .sum) ≤ 10000000 ⌝ }
+    ensures { λ r. ⌜ (r .at ≡ s .at) × (r .fell ≡ isMinus (s .sum)) × (r .closed ≡ isZero (s .sum)) ⌝ }
+{
+    if fell(s) {
+        return Found {
+            at: s.at,
+            fell: true,
+            closed: false,
+        };
+    }
+    Found {
+        at: s.at,
+        fell: false,
+        closed: is_closed(s),
+    }
+}
+
+// From one bit on to another, or to where the sum falls: an opening adds 1, a closing takes 1 away.
+pub fn forward(tree: &[u8], from: usize, end: usize) -> Found
+    ensures { λ r. ⌜ Answers (isWithin (length (now (tree .entry))) from end) (bitOf (now (tree .entry))) from end r ⌝ }
+{
+    if in_order(tree.len(), from, end) {
+        return found_by(search_from(tree, from, end, false));
+    }
+    Found {
+        at: from,
+        fell: false,
+        closed: false,
+    }
+}
+
+// From a bit back to bit 0, or to where the sum falls: a closing adds 1, an opening takes 1 away.
+pub fn backward(tree: &[u8], from: usize) -> Found
+    ensures { λ r. ⌜ Answers (isWithin (length (now (tree .entry))) 0 from) (bitOf (now (tree .entry))) from 0 r ⌝ }
+{
+    if in_order(tree.len(), 0, from) {
+        return found_by(search_from(tree, from, 0, true));
+    }
+    Found {
+        at: from,
+        fell: false,
+        closed: false,
+    }
+}

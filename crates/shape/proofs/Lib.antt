@@ -1,0 +1,10 @@
+pub mod Examples
+pub mod Heights
+pub mod Shapes
+pub mod Parsing
+pub mod Reading
+pub mod Entries
+pub mod Conditions
+pub mod ByteBits
+pub mod Rows
+pub mod Laws

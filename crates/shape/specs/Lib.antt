@@ -1,0 +1,3 @@
+pub mod Heights
+pub mod Shape
+pub mod Claims
