@@ -1,10 +1,12 @@
 // Searches in bytes of brackets for where their running sum falls below 0.
 ghost use mathlib.Core.Path.{_≡_};
+ghost use mathlib.Core.Bool.{true};
 ghost use Prim.Native.Nat.{_≤_};
+ghost use lib.IntN.{pos};
 ghost use lib.ListN.{length};
 ghost use lib.Signed.{mag};
 ghost use Rattle.refusal.specs.Conditions.{bitOf};
-ghost use Rattle.search.specs.Searching.{isMinus, isZero, isWithin, Answers};
+ghost use Rattle.search.specs.Searching.{isMinus, isZero, isWithin, Answers, Ready};
 use sums::Search;
 use sums::fell;
 use sums::is_closed;
@@ -50,12 +52,13 @@ fn found_by(s: Search) -> Found
     }
 }
 
-// From one bit on to another, or to where the sum falls: an opening adds 1, a closing takes 1 away.
-pub fn forward(tree: &[u8], from: usize, end: usize) -> Found
-    ensures { λ r. ⌜ Answers (isWithin (length (now (tree .entry))) from end) (bitOf (now (tree .entry))) from end r ⌝ }
+// A search where the bits lie in order, and else none.
+fn answer(tree: &[u8], from: usize, end: usize, back: bool, ordered: bool) -> Found
+    requires { ⌜ (ordered ≡ true → Ready back from (pos 0) end (length (now tree)) × (back ≡ true → end ≡ 0)) ⌝ }
+    ensures { λ r. ⌜ Answers ordered (bitOf (now (tree .entry))) from end r ⌝ }
 {
-    if in_order(tree.len(), from, end) {
-        return found_by(search_from(tree, from, end, false));
+    if ordered {
+        return found_by(search_from(tree, from, end, back));
     }
     Found {
         at: from,
@@ -64,16 +67,16 @@ pub fn forward(tree: &[u8], from: usize, end: usize) -> Found
     }
 }
 
+// From one bit on to another, or to where the sum falls: an opening adds 1, a closing takes 1 away.
+pub fn forward(tree: &[u8], from: usize, end: usize) -> Found
+    ensures { λ r. ⌜ Answers (isWithin (length (now (tree .entry))) from end) (bitOf (now (tree .entry))) from end r ⌝ }
+{
+    answer(tree, from, end, false, in_order(tree.len(), from, end))
+}
+
 // From a bit back to bit 0, or to where the sum falls: a closing adds 1, an opening takes 1 away.
 pub fn backward(tree: &[u8], from: usize) -> Found
     ensures { λ r. ⌜ Answers (isWithin (length (now (tree .entry))) 0 from) (bitOf (now (tree .entry))) from 0 r ⌝ }
 {
-    if in_order(tree.len(), 0, from) {
-        return found_by(search_from(tree, from, 0, true));
-    }
-    Found {
-        at: from,
-        fell: false,
-        closed: false,
-    }
+    answer(tree, from, 0, true, in_order(tree.len(), 0, from))
 }

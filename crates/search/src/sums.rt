@@ -9,9 +9,9 @@ ghost use lib.Signed.{mag};
 ghost use Rattle.refusal.specs.Conditions.{bitOf};
 ghost use Rattle.excess.specs.Excess.{excesses, minExcesses};
 ghost use Rattle.search.specs.Searching.{Live, Searched, ByteSearched, isMinus, Ready, passedFrom, byteEdge, isPast, turnedSum, stepAt, stepSum, hasEight, stopsAt, passedSum};
-use excess::EXCESS;
-use excess::MIN_EXCESS;
 use excess::is_open;
+use excess::tables::EXCESS;
+use excess::tables::MIN_EXCESS;
 
 // Where a search has come to, and the running sum of the brackets there.
 pub(crate) struct Search {

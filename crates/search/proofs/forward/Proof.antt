@@ -1,33 +1,15 @@
 -- `search::forward` meets its contract.
-use mathlib.Core.Path.{_≡_, sym, _∙_}
-use mathlib.Core.Bool.{true, false, false≢true}
-use native.Mathlib.Omega.{arith}
-use lib.ListN.{length}
-use Rattle.search.specs.Searching.{isWithin}
-use Rattle.search.proofs.Legs.{searched-small}
-use Rattle.search.proofs.Asked.{Within, within, ready-on, answers, answers-none}
+use mathlib.Core.Path.{sym, _∙_}
+use mathlib.Core.Bool.{false≢true}
+use Rattle.search.proofs.Asked.{within, ready-on}
 use Rattle.search.proofs.forward.Statement.{statement}
 use Rattle.search.proofs.forward.Tie as tie
 
-asked : (c : tie.Then1) → let s = c .before .before .before .args in isWithin (length (s .tree .now)) (s .from) (s .end) ≡ true
-asked c = sym (c .before .in-order .ensures) ∙ c .if1 .taken
-
-is-within : (c : tie.Then1) → let s = c .before .before .before .args in Within (length (s .tree .now)) (s .from) (s .end)
-is-within c = within _ _ _ (asked c)
-
-search-from-requires : tie.Need-search-from-requires
-search-from-requires c κs = (ready-on (is-within c), λ b. absurd (false≢true b))
-
-found-by-requires : tie.Need-found-by-requires
-found-by-requires c κs =
-    let W = is-within (c .before) in
-    omega (arith, searched-small (c .search-from .ensures) (omega (arith, W)) (omega (arith, W)) (omega arith))
+answer-requires : tie.Need-answer-requires
+answer-requires c κs = λ o. (ready-on (within _ _ _ (sym (c .in-order .ensures) ∙ o)), λ b. absurd (false≢true b))
 
 returns : tie.Need-returns
-returns c = answers (asked (c .before .before)) (c .before .search-from .ensures) (c .found-by .ensures)
-
-returns-2 : tie.Need-returns-2
-returns-2 c = answers-none (sym (c .before .in-order .ensures) ∙ c .if1 .left)
+returns c = rw (c .before .in-order .ensures) at (c .answer .ensures)
 
 pub forward-spec : {M : Type 1} → statement M
-forward-spec = tie.close (tie.spec (λ c κs. tt) search-from-requires found-by-requires returns returns-2)
+forward-spec = tie.close (tie.spec (λ c κs. tt) answer-requires returns)
