@@ -95,7 +95,7 @@ record-entry-requires-2 c κs =
     let h = rows-head (c .before .before .before .before .before .before) in
     let A = h .rows .inv in
     let p = rows-start h .pre .0 .0 in
-    (omega (arith, A .pos, A .most, A .fits, A .sizes .next), omega (arith, A .pos, A .most, A .fits, A .sizes .nextMatch), p, omega arith)
+    (omega (arith, A .pos, A .most, A .fits, A .sizes .next), omega (arith, A .pos, A .most, A .fits, A .sizes .nextMatch), omega (arith, A .most, A .fits, p), omega arith)
 
 -- the entries of the row are recorded
 row-recorded : (e : tie.After-record-entry2 Inv-walk μ-walk Inv-rows μ-rows) → let h = rows-head (row e) .rows in
