@@ -12,9 +12,9 @@ use Rattle.suffix.specs.Tree.{treeLength}
 use Rattle.suffix.proofs.Search.{all-at, any-same}
 use Rattle.refusal.specs.Conditions.{byteBit, bitOf, spareBitSet}
 
-pub spare-none : (n : ℕ) (t : List ℕ) → length t ≡ treeLength n → n % 4 ≡ 0 → spareBitSet n t ≡ false
+pub no-spare-bits : (n : ℕ) (t : List ℕ) → length t ≡ treeLength n → n % 4 ≡ 0 → spareBitSet n t ≡ false
 unfolding spareBitSet anyBelow
-spare-none n t h e = let z : 8 * length t - 2 * n ≡ 0 = omega arith in rw z
+no-spare-bits n t h e = let z : 8 * length t - 2 * n ≡ 0 = omega arith in rw z
 
 -- one test over all bytes: a byte's bits from 2 r on are all 0 exactly where what is above them is 0
 rule : ℕ → ℕ → Bool

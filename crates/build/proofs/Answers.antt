@@ -33,9 +33,12 @@ module _ (letters : List ℕ) (R : ℕ) (before : Lent) where
       record {
         answers = rw (ne, answer) (ap Rattle.build.specs.Built.refused e);
         leaves = rw (ne, lentAtExit);
-        within = λ z. absurd (omega (arith, positive k));
-        bound = λ z. absurd (omega (arith, positive k));
-        whole = λ z. absurd (omega (arith, positive k));
+        bounded =
+            record {
+              within = λ z. absurd (omega (arith, positive k));
+              bound = λ z. absurd (omega (arith, positive k));
+              whole = λ z. absurd (omega (arith, positive k));
+            };
       }
 
   -- what is lent and asked, where it is not refused
@@ -91,9 +94,7 @@ module _ (letters : List ℕ) (R : ℕ) (before : Lent) where
           record {
             answers = a;
             leaves = rw (eq-eqb (refusalOf letters R before) 0 taken, lentAtExit, ← q, ← tables);
-            within = λ z. E .within;
-            bound = λ z. E .bound;
-            whole = λ z w h. omega (arith, E .bound h, E .within);
+            bounded = record { within = λ z. E .within; bound = λ z. E .bound; whole = λ z w h. omega (arith, E .bound h, E .within) };
           }
 
       pub finished : R ≡ n → BuiltExactly letters R before after (Finished report)

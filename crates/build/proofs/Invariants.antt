@@ -1,4 +1,4 @@
--- What holds at the head of the row loop and at the head of the walk, and how each way out of the walk keeps it.
+-- What holds at the head of the row loop and at the head of the walk, and how each way through the two loops keeps it.
 use mathlib.Core.Path.{_≡_, refl, sym, ap, ap₂, _∙_}
 use mathlib.Core.Logic.{_≢_, _⊎_, inl, inr}
 use mathlib.Core.Bool.{Bool, true, false}

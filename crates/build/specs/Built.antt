@@ -11,7 +11,6 @@ use Rattle.suffix.specs.Tree.{treeBytes}
 use Rattle.refusal.specs.Numbers.{numberOf}
 use Rattle.refusal.specs.Conditions.{buildRefusal}
 use Rattle.reuse.specs.Steps.{afterRows}
-use Rattle.build.specs.States.{tablesOf}
 use Rattle.build.specs.declared.Built.{Built}
 use Rattle.build.specs.declared.Built.the-variants.{Finished, Halted, Refused}
 
@@ -21,7 +20,8 @@ pub record Lent : Type 0 where
   pub tree : List ℕ
 
 abbrev pub lent : List ℕ → List ℕ → List ℕ → List ℕ → List ℕ → Lent
-lent previous next previousMatch nextMatch tree = record { tables = tablesOf previous next previousMatch nextMatch; tree = tree }
+lent previous next previousMatch nextMatch tree =
+    record { tables = record { previous = previous; next = next; previousMatch = previousMatch; nextMatch = nextMatch }; tree = tree }
 
 -- what R rows leave there
 unfoldable pub lentAfter : List ℕ → ℕ → Lent
@@ -62,13 +62,17 @@ answer letters R lent =
 unfoldable pub lentAtExit : List ℕ → ℕ → Lent → Lent
 lentAtExit letters R lent = elim (eqb (refusalOf letters R lent) 0) [ true ↦ lentAfter (ranks letters) R | false ↦ lent ]
 
--- demand 3, and demand 1 for the build: of one and the same build, whatever the letters, R and the lent memory
-pub record BuiltExactly (letters : List ℕ) (R : ℕ) (before after : Lent) (built : Built) : Type 0 where
-  pub answers : figuresOf built ≡ answer letters R before
-  pub leaves : after ≡ lentAtExit letters R before
+-- the cost and the reach of a build that is not refused
+pub record Bounded (letters : List ℕ) (R : ℕ) (before : Lent) : Type 0 where
   -- "Reach never passes n"
   pub within : refusalOf letters R before ≡ 0 → reach (ranks letters) R ≤ length letters
   -- "these comparisons are at most 2 (R - 1) + (reach - 1)"
   pub bound : refusalOf letters R before ≡ 0 → 0 < R → comparisons (ranks letters) R ≤ 2 * (R - 1) + (reach (ranks letters) R - 1)
   -- "so a whole build takes at most 3 (n - 1)"
   pub whole : refusalOf letters R before ≡ 0 → R ≡ length letters → 0 < R → comparisons (ranks letters) R ≤ 3 * (length letters - 1)
+
+-- demand 3, and demand 1 for the build: of one and the same build, whatever the letters, R and the lent memory
+pub record BuiltExactly (letters : List ℕ) (R : ℕ) (before after : Lent) (built : Built) : Type 0 where
+  pub answers : figuresOf built ≡ answer letters R before
+  pub leaves : after ≡ lentAtExit letters R before
+  pub bounded : Bounded letters R before

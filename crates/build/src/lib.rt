@@ -11,7 +11,7 @@ ghost use Rattle.build.specs.Built.{lent, BuiltExactly};
 use refusal::Refusal;
 use refusal::Verdict;
 
-// The state of a build: reach c, shift d, the rows done and the comparisons made.
+// The state of a build: reach c, shift d, the rows done, the one that is walked included, and the comparisons made.
 struct State {
     reach: usize,
     shift: usize,
@@ -39,6 +39,7 @@ pub enum Built {
     Refused(Refusal),
 }
 
+// An entry as an index.
 fn wide(x: u32) -> usize
     ensures { λ r. ⌜ (r ≡ x) × (r < 4294967296) ⌝ }
 {
@@ -97,7 +98,8 @@ impl State {
         self.stop(l, r, m, false)
     }
 
-    // Steps 1 and 2: settles (l, r) from m, unless it is known to have match m and the smaller suffix at r. No previous entry is read.
+    // Steps 1 and 2: settles (l, r) from m, unless it is known to have match m and the smaller suffix at r: so it is called
+    // at one place, and inlined there. No previous entry is read.
     fn settle(
         self,
         letters: &[u8],
@@ -210,7 +212,7 @@ fn build_rows(
         bit += 1;
         let r = state.rows;
         record_entry(previous, previous_match, r - 1, p, v);
-        // pending
+        // none until a later row settles it
         record_entry(next, next_match, r - 1, n, 0);
         if rows <= r {
             break 'rows;
@@ -221,8 +223,7 @@ fn build_rows(
         let mut known = false;
         'walk: loop {
             let pair = state.settle(letters, next, previous_match, next_match, l, r, m, known);
-            let settled = pair.state;
-            state = settled;
+            state = pair.state;
             m = pair.matched;
             if pair.left_smaller {
                 p = l;

@@ -1,7 +1,7 @@
 -- The claims of specs/Claims.antt, each proved.
-use mathlib.Core.Path.{_≡_, refl, sym, ap, ap₂, _∙_}
+use mathlib.Core.Path.{_≡_, ap, _∙_}
 use mathlib.Core.List.{List}
-use Prim.Native.Nat.{ℕ, _≤_, _<_}
+use Prim.Native.Nat.{ℕ, _≤_}
 use native.Mathlib.Nat.{le-trans, lt-of-lt-of-le}
 use lib.ListN.{length, getD}
 use borrow.Author.Tests.{eq-eqb}

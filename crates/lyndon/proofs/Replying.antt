@@ -16,7 +16,7 @@ use Rattle.lyndon.specs.Replies.{buildReply, BuildReplied, ReadReplied, 
 pub built :
     {letters : List ℕ} {R : ℕ} {before after : build.Lent} {a : Built} {given : BuildReply} → build.BuiltExactly letters R before after a
     → given ≡ buildReply (build.figuresOf a) → BuildReplied letters R before after given
-built e z = record { replies = z ∙ ap buildReply (e .answers); leaves = e .leaves }
+built e z = record { replies = z ∙ ap buildReply (e .answers); leaves = e .leaves; bounded = e .bounded }
 
 -- a reading with the verdict b, and its number
 pub read :

@@ -18,10 +18,11 @@ buildReply (build.finished rows comparisons reach) = record { refusal = 0; finis
 buildReply (build.halted rows comparisons reach) = record { refusal = 0; finished = 0; rows = rows; comparisons = comparisons; reach = reach }
 buildReply (build.refused number) = record { refusal = number; finished = 0; rows = 0; comparisons = 0; reach = 0 }
 
--- a build; `BuiltExactly` says how these figures are bounded
+-- a build
 pub record BuildReplied (letters : List ℕ) (R : ℕ) (before after : build.Lent) (given : BuildReply) : Type 0 where
   pub replies : given ≡ buildReply (build.answer letters R before)
   pub leaves : after ≡ build.lentAtExit letters R before
+  pub bounded : build.Bounded letters R before
 
 -- reading a tree
 pub record ReadReplied (n : ℕ) (tree : List ℕ) (before after : brackets.Lent) (number : ℕ) : Type 0 where

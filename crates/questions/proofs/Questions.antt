@@ -11,10 +11,9 @@ use borrow.Author.Tests.{eq-eqb, eqb-true, eqb-false}
 use Rattle.suffix.specs.Tree.{treeLength}
 use Rattle.suffix.proofs.Cases.{Tri, lt, eq, gt, tri, Test, holds, fails, test, le-unless, both-true}
 use Rattle.suffix.proofs.Search.{Least, found, absent, least}
-use Rattle.refusal.specs.Conditions.{bitOf, openings, questionRefusal}
+use Rattle.refusal.specs.Conditions.{bitOf, openings, flawNumber, questionRefusal}
 use Rattle.shape.specs.Shape.{previousTable, nextTable}
 use Rattle.questions.specs.Answers.{value, placeOf, placeAnswer}
-use Rattle.refusal.specs.Conditions.{flawNumber}
 use Rattle.shape.specs.Heights.{opened}
 use Rattle.search.specs.Searching.{Fell, isMinus, Searched}
 use Rattle.shape.proofs.Heights.{opens, shuts, opened-grows, opening-one, Entry, ClosedAt, Encloses, by, root, closed-once, enclosed-once}

@@ -14,7 +14,7 @@ pub enum Answer {
     NoValue(Refusal),
 }
 
-// Refusals 1, 3, 5, 6, 7, 8 of a question.
+// Refusals 1, 3, 5, 6, 7, 8 of a question: 5 comes between those that the verdict on the tree tests.
 fn question(n: usize, tree: &[u8], position: usize) -> Verdict
     ensures { λ r. ⌜ verdictNumber r ≡ questionRefusal n (now (tree .entry)) position ⌝ }
 {
@@ -44,7 +44,7 @@ pub fn place_of(n: usize, tree: &[u8], position: usize) -> Answer
     }
 }
 
-// The next entry of a position: the positions up to where its bracket closes.
+// The next entry of a position: it, and as many more as stand at and below it, half of the bits from its opening to behind its closing.
 pub fn next_of(n: usize, tree: &[u8], position: usize) -> Answer
     ensures { λ r. ⌜ figuresOf r ≡ nextAnswer n (now (tree .entry)) position ⌝ }
 {

@@ -1,11 +1,11 @@
 -- A search that is asked for, and what it answers.
-use mathlib.Core.Path.{_≡_, refl, sym, ap, _∙_}
-use mathlib.Core.Bool.{Bool, true, false, not, _&&_, true≢false, false≢true}
+use mathlib.Core.Path.{_≡_, refl, sym, _∙_}
+use mathlib.Core.Bool.{Bool, true, false, _&&_, true≢false, false≢true}
 use Prim.Native.Nat.{ℕ, _*_, _≤_}
 use native.Mathlib.Omega.{arith}
-use lib.Dec.{ltb, leb}
+use lib.Dec.{leb}
 use lib.IntN.{ℤ, pos}
-use borrow.Author.Tests.{ltb-false, le-ltb, leb-true, le-leb}
+use borrow.Author.Tests.{leb-true, le-leb}
 use Rattle.suffix.proofs.Cases.{both-true}
 use Rattle.search.specs.Searching.{isMinus, isZero, Searched, isWithin, Answers, Ready}
 use Rattle.search.specs.declared.Found.{Found}
@@ -15,22 +15,14 @@ pub record Within (bytes a e : ℕ) : Type 0 where
   pub inside : e ≤ 8 * bytes
   pub ordered : a ≤ e
 
-not-true : (b : Bool) → not b ≡ true → b ≡ false
-not-true true e = sym e
-not-true false e = refl
-
 pub within : (bytes a e : ℕ) → isWithin bytes a e ≡ true → Within bytes a e
 within bytes a e h =
-    let p = both-true (not (ltb 250000 bytes) && not (ltb (8 * bytes) e)) (leb a e) h in
-    let q = both-true (not (ltb 250000 bytes)) (not (ltb (8 * bytes) e)) (p .0) in
-    record {
-      few = ltb-false 250000 bytes (not-true _ (q .0));
-      inside = ltb-false (8 * bytes) e (not-true _ (q .1));
-      ordered = leb-true a e (p .1);
-    }
+    let p = both-true (leb bytes 250000 && leb e (8 * bytes)) (leb a e) h in
+    let q = both-true (leb bytes 250000) (leb e (8 * bytes)) (p .0) in
+    record { few = leb-true bytes 250000 (q .0); inside = leb-true e (8 * bytes) (q .1); ordered = leb-true a e (p .1) }
 
 pub is-within : (bytes a e : ℕ) → bytes ≤ 250000 → e ≤ 8 * bytes → a ≤ e → isWithin bytes a e ≡ true
-is-within bytes a e f i o = rw (le-ltb 250000 bytes f, le-ltb (8 * bytes) e i, le-leb a e o)
+is-within bytes a e f i o = rw (le-leb bytes 250000 f, le-leb e (8 * bytes) i, le-leb a e o)
 
 pub ready-on : {bytes a e : ℕ} → Within bytes a e → Ready false a (pos 0) e bytes
 ready-on W = record { low = refl; small = omega arith; fits = W .few; on = λ _. (W .ordered, W .inside); down = λ b. absurd (false≢true b) }

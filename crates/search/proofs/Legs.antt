@@ -55,7 +55,6 @@ edge-is true k = omega arith
 record InOrder (from e a b : ℕ) : Type 0 where
   edge-in : (min from b ≤ a) × (a ≤ max from b)
   far-in : (min from e ≤ b) × (b ≤ max from e)
-  edge-ends : (min from e ≤ a) × (a ≤ max from e)
 
 module _ {from e bytes : ℕ} where
   -- the edge on the way
@@ -92,12 +91,12 @@ module _ {from e bytes : ℕ} where
       let r = R .on refl in
       let y : byteEdge true from ≤ e = ltb-false e (byteEdge true from) q in
       let u : (byteEdge true from ≤ at) × (at ≤ e) = (omega (arith, w), omega (arith, w)) in
-      record { edge-in = (omega (arith, u), omega (arith, u)); far-in = (omega (arith, u, r), omega (arith, u, r)); edge-ends = (omega (arith, r), omega (arith, r)) }
+      record { edge-in = (omega (arith, u), omega (arith, u)); far-in = (omega (arith, u, r), omega (arith, u, r)) }
   in-order true R q z {at} w =
       let r = R .down refl in
       let n : e ≡ 0 = z refl in
       let u : (at ≤ byteEdge false from) × (0 ≤ at) = (omega (arith, w), omega arith) in
-      record { edge-in = (omega (arith, u), omega (arith, u)); far-in = (omega (arith, u, r), omega (arith, u, r)); edge-ends = (omega (arith, r), omega (arith, r)) }
+      record { edge-in = (omega (arith, u), omega (arith, u)); far-in = (omega (arith, u, r), omega (arith, u, r)) }
 
   module _ {g : ℕ → Bool} (back : Bool) (R : Ready back from (pos 0) e bytes) (q : isPast back (byteEdge (not back) from) e ≡ false) (z : back ≡ true → e ≡ 0) where
     pub first-falls : {at : ℕ} {sum : ℤ} → Searched g from 0 (byteEdge (not back) from) at sum → isMinus sum ≡ true → Searched g from 0 e at sum

@@ -2,5 +2,5 @@ pub mod Searching
 pub mod Signed
 pub mod Going
 pub mod Legs
-pub mod Once
+pub mod Laws
 pub mod Asked

@@ -2,7 +2,7 @@
 use mathlib.Core.Path.{_≡_}
 use mathlib.Core.Logic.{_≢_}
 use mathlib.Core.Bool.{Bool, true, false, not, _&&_}
-use Prim.Native.Nat.{ℕ, zero, suc, _+_, _-_, _*_, _/_, _%_, _≤_, min, max}
+use Prim.Native.Nat.{ℕ, zero, suc, _+_, _-_, _*_, _/_, _≤_, min, max}
 use lib.Dec.{ltb, leb}
 use lib.IntN.{ℤ, pos, negsuc}
 use lib.Signed.{mag}
@@ -48,7 +48,7 @@ pub record Finds (g : ℕ → Bool) (a e : ℕ) (r : Found) : Type 0 where
 
 -- bit a does not come behind bit e, and bit e not behind the last of so many bytes; a tree has at most 250,000
 abbrev pub isWithin : ℕ → ℕ → ℕ → Bool
-isWithin bytes a e = not (ltb 250000 bytes) && not (ltb (8 * bytes) e) && leb a e
+isWithin bytes a e = leb bytes 250000 && leb e (8 * bytes) && leb a e
 
 -- what a search answers: where the bits are not so, it does not start
 pub record Answers (within : Bool) (g : ℕ → Bool) (a e : ℕ) (r : Found) : Type 0 where
@@ -105,7 +105,8 @@ abbrev pub passedSum : Bool → ℕ → ℕ → ℕ
 passedSum false b v = v + 2 * ones b 8 - 8
 passedSum true b v = v + 8 - 2 * ones b 8
 
--- a search that has not fallen, and stands within the largest tree
+-- a search that has not fallen, and stands within the largest tree; the sums of a search in one lie far below these bounds, which are kept
+-- by a step and fit 32 bits
 pub record Live (at : ℕ) (sum : ℤ) : Type 0 where
   pub low : sum ≡ pos (mag sum)
   pub small : mag sum ≤ 10000000

@@ -34,6 +34,7 @@ fn in_order(bytes: usize, from: usize, end: usize) -> bool
     from <= end
 }
 
+// What a search that ended finds.
 fn found_by(s: Search) -> Found
     requires { ⌜ mag (s .sum) ≤ 10000000 ⌝ }
     ensures { λ r. ⌜ (r .at ≡ s .at) × (r .fell ≡ isMinus (s .sum)) × (r .closed ≡ isZero (s .sum)) ⌝ }
@@ -67,14 +68,16 @@ fn answer(tree: &[u8], from: usize, end: usize, back: bool, ordered: bool) -> Fo
     }
 }
 
-// From one bit on to another, or to where the sum falls: an opening adds 1, a closing takes 1 away.
+// From one bit on to another, or to behind the closing at which the sum falls: an opening adds 1, a closing takes 1 away. Bits that are not in order
+// are answered with the start, neither fallen nor closed.
 pub fn forward(tree: &[u8], from: usize, end: usize) -> Found
     ensures { λ r. ⌜ Answers (isWithin (length (now (tree .entry))) from end) (bitOf (now (tree .entry))) from end r ⌝ }
 {
     answer(tree, from, end, false, in_order(tree.len(), from, end))
 }
 
-// From a bit back to bit 0, or to where the sum falls: a closing adds 1, an opening takes 1 away.
+// From a bit back to bit 0, or to the opening at which the sum falls: a closing adds 1, an opening takes 1 away. A bit behind the last is answered
+// with itself, neither fallen nor closed.
 pub fn backward(tree: &[u8], from: usize) -> Found
     ensures { λ r. ⌜ Answers (isWithin (length (now (tree .entry))) 0 from) (bitOf (now (tree .entry))) from 0 r ⌝ }
 {

@@ -82,6 +82,7 @@ fn step(s: Search, opening: bool, back: bool) -> Search
     }
 }
 
+// A byte as an index.
 fn wide(byte: u8) -> usize
     ensures { λ r. ⌜ r ≡ byte ⌝ }
 {

@@ -12,8 +12,7 @@ use Rattle.suffix.proofs.Cases.{Test, holds, fails, test}
 use Rattle.suffix.proofs.Search.{any-true, any-false, any-not}
 use Rattle.suffix.specs.Tree.{treeLength}
 use Rattle.refusal.specs.Numbers.{lowest, lowestFrom}
-use Rattle.refusal.specs.Conditions.{bitOf, spareBitSet, openings, closings, closedTooEarly, leftOpen, treeRefusal, questionRefusal, readRefusal}
-use Rattle.refusal.specs.Conditions.{flawNumber}
+use Rattle.refusal.specs.Conditions.{bitOf, spareBitSet, openings, closings, closedTooEarly, leftOpen, flawNumber, treeRefusal, questionRefusal, readRefusal}
 use Rattle.shape.specs.Heights.{opened}
 use Rattle.shape.proofs.Heights.{opened-all}
 use Rattle.shape.proofs.Reading.{Balanced}

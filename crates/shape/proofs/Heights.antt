@@ -1,4 +1,4 @@
--- Bits as brackets: how many are open after k of them, by counting the openings.
+-- Bits as brackets: how many are open after k of them, by counting the openings; where a position opens, where it closes, and what encloses it.
 use mathlib.Core.Path.{_≡_, refl, sym, ap, _∙_}
 use mathlib.Core.Bool.{Bool, true, false, not}
 use Prim.Native.Nat.{ℕ, zero, suc, _+_, _≤_, _<_}

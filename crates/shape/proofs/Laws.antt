@@ -14,9 +14,8 @@ use Rattle.suffix.specs.Tree.{parentheses, byteOf, treeLength, forestAfter, tre
 use Rattle.suffix.proofs.Cases.{Tri, lt, eq, gt, tri, Test, holds, fails, test, le-unless}
 use Rattle.suffix.proofs.Search.{tabulate-length, tabulate-entry, tabulate-same}
 use Rattle.suffix.proofs.Written.{tree-length}
-use Rattle.refusal.specs.Conditions.{bitOf, treeRefusal}
+use Rattle.refusal.specs.Conditions.{bitOf, flawNumber, treeRefusal}
 use Rattle.shape.specs.Shape.{size, parents, ends, IsTreeOf, shapeOf, previousTable, nextTable}
-use Rattle.refusal.specs.Conditions.{flawNumber}
 use Rattle.shape.specs.Claims.{TreesHaveTables, TablesAreOne, TreesAreAccepted, EqualTablesEqualTrees, ReadsAs, FinishedTree, firstBytes, HaltedTree, HaltedTreeIsRefused}
 use Rattle.shape.specs.Heights.{opened}
 use Rattle.shape.proofs.Heights.{opened-none, shuts, entry-one}

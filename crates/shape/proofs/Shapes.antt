@@ -1,4 +1,4 @@
--- The brackets of a forest, laid out from a bit on: its two tables, entry by entry; and that balanced brackets have a shape.
+-- The brackets of a forest, laid out from a bit on: its two tables, entry by entry.
 use mathlib.Core.Path.{_≡_, refl, ap, _∙_}
 use mathlib.Core.Logic.{_⊎_, inl, inr}
 use mathlib.Core.Bool.{Bool, true, false}

@@ -1,1 +1,1 @@
-// No code: the tree of brackets, its shape and its two tables (specs/), and what is claimed of them (proofs/).
+// No code: the tree of brackets, its shape, its two tables and what is claimed of them (specs/), and that it holds (proofs/).

@@ -3,12 +3,12 @@ use mathlib.Core.Path.{sym}
 use Prim.Native.Nat.{_/_}
 use native.Mathlib.Omega.{arith}
 use borrow.Author.Needs.{needs}
-use Rattle.brackets.proofs.Spare.{spare-none, spare-last}
+use Rattle.brackets.proofs.Spare.{no-spare-bits, spare-last}
 use Rattle.brackets.proofs.spare_bit_set.Statement.{statement}
 use Rattle.brackets.proofs.spare_bit_set.Tie as tie
 
 returns : tie.Need-returns
-returns c = let s = c .before in sym (spare-none (s .args .n) (s .args .tree .now) (s .pre .1) (c .if1 .taken))
+returns c = let s = c .before in sym (no-spare-bits (s .args .n) (s .args .tree .now) (s .pre .1) (c .if1 .taken))
 
 shared-slice-read-result : tie.Need-shared-slice-read-result
 shared-slice-read-result c = search needs

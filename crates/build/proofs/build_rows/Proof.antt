@@ -1,10 +1,8 @@
 -- `build::build_rows` meets its contract: each way through its two loops is a law of proofs/Invariants.antt.
 use mathlib.Core.Path.{_≡_, refl, sym, ap, _∙_}
-use mathlib.Core.Logic.{_≢_}
-use mathlib.Core.List.{List}
-use Prim.Native.Nat.{ℕ, _-_, _≤_, _<_}
+use Prim.Native.Nat.{_-_, _≤_, _<_}
 use native.Mathlib.Omega.{arith}
-use lib.ListN.{length, getD, set, length-set, length-replicate}
+use lib.ListN.{length, length-replicate}
 use Rattle.suffix.specs.Tree.{treeBytes}
 use Rattle.suffix.proofs.Bytes.{bytes-length, no-bytes}
 use Rattle.reuse.specs.Steps.{recordPrevious, recordNext}

@@ -1,5 +1,5 @@
 -- `excess::is_open` meets its contract.
-use mathlib.Core.Path.{_≡_, refl, sym, ap, _∙_}
+use mathlib.Core.Path.{_≡_, sym, ap, _∙_}
 use mathlib.Core.Bool.{false}
 use Prim.Native.Nat.{ℕ, _^_, _%_}
 use native.Mathlib.Nat.{zero-div}

@@ -1,19 +1,18 @@
 -- `search::in_order` meets its contract.
-use mathlib.Core.Path.{refl}
 use Prim.Native.Nat.{_*_}
 use borrow.Author.Needs.{needs}
-use borrow.Author.Tests.{lt-ltb, le-ltb}
+use borrow.Author.Tests.{lt-leb, le-leb}
 use Rattle.search.proofs.in_order.Statement.{statement}
 use Rattle.search.proofs.in_order.Tie as tie
 
 returns : tie.Need-returns
-returns c = rw (lt-ltb 250000 (c .before .args .bytes) (c .if1 .taken))
+returns c = rw (lt-leb (c .before .args .bytes) 250000 (c .if1 .taken))
 
 returns-2 : tie.Need-returns-2
-returns-2 c = let s = c .before .before .args in rw (le-ltb 250000 (s .bytes) (c .before .if1 .left), lt-ltb (8 * s .bytes) (s .end) (c .if2 .taken))
+returns-2 c = let s = c .before .before .args in rw (le-leb (s .bytes) 250000 (c .before .if1 .left), lt-leb (s .end) (8 * s .bytes) (c .if2 .taken))
 
 returns-3 : tie.Need-returns-3
-returns-3 c = let s = c .before .before .args in rw (le-ltb 250000 (s .bytes) (c .before .if1 .left), le-ltb (8 * s .bytes) (s .end) (c .if2 .left))
+returns-3 c = let s = c .before .before .args in rw (le-leb (s .bytes) 250000 (c .before .if1 .left), le-leb (s .end) (8 * s .bytes) (c .if2 .left))
 
 pub in-order-spec : {M : Type 1} → statement M
 in-order-spec = tie.close (tie.spec returns (λ c. search needs) returns-2 returns-3)

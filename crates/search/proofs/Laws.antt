@@ -1,12 +1,12 @@
 -- The claim of specs/Claims.antt, proved.
 use mathlib.Core.Path.{_≡_, refl, sym, ap, _∙_}
 use mathlib.Core.Logic.{_≢_}
-use mathlib.Core.Bool.{Bool, false}
+use mathlib.Core.Bool.{Bool, true, false}
 use Prim.Native.Nat.{ℕ, _≤_, min, max}
 use native.Mathlib.Omega.{arith}
 use lib.IntN.{ℤ, pos}
 use Rattle.suffix.proofs.Cases.{Tri, lt, eq, gt, tri}
-use Rattle.search.specs.Searching.{Passed, Fell, Reached, passed, fell, isMinus, isZero, Searched}
+use Rattle.search.specs.Searching.{Fell, Reached, passed, fell, isMinus, isZero, Finds}
 use Rattle.search.specs.Claims.{SearchesFindOne}
 use Rattle.search.specs.declared.Found.{Found}
 
@@ -45,9 +45,13 @@ module _ (g : ℕ → Bool) (a s e at at′ : ℕ) (w : (min a e ≤ at) × (at 
 same : {a a′ : ℕ} {f f′ c c′ : Bool} → a ≡ a′ → f ≡ f′ → c ≡ c′ → _≡_ {A = Found} (record { at = a; fell = f; closed = c }) (record { at = a′; fell = f′; closed = c′ })
 same p q u = rw (p, q, u)
 
-pub searchesFindOne : SearchesFindOne
-searchesFindOne g a e r s F G =
+finds-one : {g : ℕ → Bool} {a e : ℕ} {r s : Found} → Finds g a e r → Finds g a e s → r ≡ s
+finds-one {g} {a} {e} {r} {s} F G =
     let S = F .searched in
     let T = G .searched in
     let k = reached-once g a 0 e (r .at) (s .at) (S .between) (T .between) (F .sum) (G .sum) (S .reached) (T .reached) (S .ends) (T .ends) in
     same (k .0) (F .fell ∙ ap isMinus (k .1) ∙ sym (G .fell)) (F .closed ∙ ap isZero (k .1) ∙ sym (G .closed))
+
+pub searchesFindOne : SearchesFindOne
+searchesFindOne true g a e r s A B = finds-one (A .finds refl) (B .finds refl)
+searchesFindOne false g a e r s A B = A .none refl ∙ sym (B .none refl)
