@@ -52,10 +52,10 @@ fn check_positions(letters: &[u8]) {
 
 #[test]
 fn every_string_over_two_letters() {
-    check_every_string(&[127, 128], 15);
+    check_every_string(&[127, 128], 16);
 }
 
 #[test]
 fn every_string_over_three_letters() {
-    check_every_string(&[0, 127, 255], 10);
+    check_every_string(&[0, 127, 255], 11);
 }
