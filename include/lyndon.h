@@ -11,19 +11,31 @@
  * The tree has 2n bits, an opening (1) and a closing (0) for each position. Position i hangs under previous[i], or is a root.
  * Bit k is in byte k / 8 with weight 2 to the power k mod 8. The tree fills ceil(n / 4) bytes, whose spare bits are 0.
  *
+ * A cabinet is a file of many trees. Each number in it has 32 bits, the lowest byte first:
+ *
+ *   the four bytes LYN1
+ *   the number of entries, 0 to 64
+ *   for each entry the place of its tree from the file's first byte, and its letter count n
+ *   the trees, in the order of their entries and without gaps
+ *
  * No caller has to test anything first: each function takes every value of every number and every length, and answers with a
  * refusal where the rules ask for one. A refusal is one of
  *
- *   1  n above 1,000,000
+ *   1  n above 1,000,000; writing a cabinet: a letter count above 1,000,000
  *   2  a lent table not exactly n entries long
- *   3  the tree not exactly ceil(n / 4) bytes
+ *   3  the tree not exactly ceil(n / 4) bytes; writing a cabinet: the trees or the buffer not as many bytes as the counts ask for
  *   4  more rows asked than n
- *   5  a position not below n
+ *   5  a position not below n; reading a cabinet: an entry not below the number of entries
  *   6  a spare bit of the tree is 1
  *   7  some first bits of the 2n hold more closings than openings
  *   8  no such place, but not all brackets are closed
+ *   9  a cabinet file under 8 bytes or with another mark than LYN1
+ *  10  a cabinet with more than 64 entries
+ *  11  a cabinet file whose contents are cut short, with a place that is not the end of what comes before it, with bytes missing or
+ *      left over at the end, or with a letter count above 1,000,000
  *
- * Where several apply, the lowest number is returned. 0 means: not refused. A refusal writes nothing to the lent memory.
+ * Where several apply, the lowest number is returned, except by the two functions of a cabinet, which test in the order given at
+ * each. 0 means: not refused. A refusal writes nothing to the lent memory.
  *
  * Each list passes as a pointer and then its length in entries. A pointer is not null, also where the length is 0, and it points to
  * as many entries as the length says. Lists that are written do not overlap each other or any other list of the same call.
@@ -62,6 +74,14 @@ typedef struct PartReply {
     size_t start;     /* where the part starts; 0 where refused */
     size_t length;    /* its length; 0 where refused */
 } PartReply;
+
+/* A tree in a cabinet file. */
+typedef struct CabinetReply {
+    uint32_t refusal; /* 0, or 5 to 11 */
+    uint32_t letters; /* the tree's letter count n; 0 where refused */
+    size_t start;     /* where the tree starts in the file; 0 where refused */
+    size_t length;    /* its length in bytes; 0 where refused */
+} CabinetReply;
 
 /* Builds the first `rows` rows of the structure of `letters`; n is letters_length.
  *
@@ -105,6 +125,23 @@ Reply lyndon_place(size_t n, const uint8_t *tree, size_t tree_length, size_t pos
  * n is letters_length.
  * Refusals: 1, 5; the part is then the empty one at the string's start. Memory: nothing is written. */
 PartReply lyndon_word(const uint8_t *letters, size_t letters_length, size_t position);
+
+/* Writes the cabinet file of the trees with the letter counts `counts`. `trees` holds them end to end. `file` has exactly the
+ * file's length: 8 bytes, and for each count n 8 and ceil(n / 4) bytes. Returns the refusal, or 0.
+ *
+ * Refusals, in the order in which they are tested: 10, 1, 3 (for the trees or the file), then 6, 7, 8 tree by tree, so that the
+ * first faulty tree decides.
+ * Memory: a refusal leaves the file as it was. Otherwise every byte of it is written. Counts and trees are only read. */
+uint32_t lyndon_cabinet_write(const uint32_t *counts, size_t counts_length,
+                              const uint8_t *trees, size_t trees_length,
+                              uint8_t *file, size_t file_length);
+
+/* Checks the whole cabinet file, whichever entry is asked for, and gives the tree of `entry` as a part of the file. Entries count
+ * from 0. The part starts at the place that the contents give.
+ *
+ * Refusals, in the order in which they are tested: 9, 10, 11, 5, then 6, 7, 8 tree by tree, so that the first faulty tree decides.
+ * The part is then the empty one at the file's start. Memory: nothing is written. */
+CabinetReply lyndon_cabinet_read(const uint8_t *file, size_t file_length, size_t entry);
 
 #ifdef __cplusplus
 }

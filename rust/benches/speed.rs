@@ -1,4 +1,5 @@
-//! Times the library beside plain Rust: builds of 1,000,000 letters, how their cost grows, and trees.
+//! Times the library beside plain Rust: builds of 1,000,000 letters, how their cost grows, trees, and
+//! cabinets of them.
 //!
 //! Both sides take turns in one run, on the same input and the same buffers, which are not cleared
 //! between. Each answer is compared with the first one, outside the measured time.
@@ -8,11 +9,12 @@ use std::hint::black_box;
 use std::time::Instant;
 
 use reference::samples::{self, Random};
-use reference::{fast, fast_brackets, Figures};
+use reference::{cabinet, fast, fast_brackets, Figures};
 
 const LETTERS: usize = 1_000_000;
 const BUILD_ROUNDS: usize = 31;
 const TREE_ROUNDS: usize = 101;
+const CABINET_ROUNDS: usize = 31;
 
 /// Measured times, or ratios of them.
 struct Times(Vec<f64>);
@@ -240,6 +242,39 @@ fn compare_questions(trees: &[(&str, Vec<u8>)]) {
     }
 }
 
+fn compare_cabinets(trees: &[(&str, Vec<u8>)]) {
+    let entries = lyndon::MAX_ENTRIES;
+    println!("\nCabinets of {entries} trees of {LETTERS} positions, {CABINET_ROUNDS} rounds.");
+    print_head(&format!("trees | operation | {}", Comparison::COLUMNS));
+    let counts = vec![LETTERS as u32; entries];
+    for (name, tree) in trees {
+        let bodies = tree.repeat(entries);
+        let mut file = vec![0; lyndon::cabinet_length(&counts)];
+        let writing = Comparison::run(
+            CABINET_ROUNDS,
+            &mut file,
+            |file| lyndon::cabinet_write(black_box(&counts), black_box(&bodies), file).is_ok(),
+            |file| cabinet::write(black_box(&counts), black_box(&bodies), file).is_ok(),
+        );
+        println!("| {name} | write | {} |", writing.row());
+
+        let last = entries - 1;
+        let reading = Comparison::run(
+            CABINET_ROUNDS,
+            &mut (),
+            |()| {
+                let entry = lyndon::cabinet_read(black_box(&file), black_box(last)).ok();
+                entry.map(|entry| (entry.letters, entry.tree))
+            },
+            |()| {
+                let entry = cabinet::read(black_box(&file), black_box(last)).ok();
+                entry.map(|(letters, part)| (letters as usize, &file[part]))
+            },
+        );
+        println!("| {name} | read | {} |", reading.row());
+    }
+}
+
 /// Printed first.
 const LEGEND: &str = "\
 Ratios are library / plain Rust. 'Median of ratios' is over the rounds, each with its own ratio. The
@@ -266,4 +301,5 @@ fn main() {
     ];
     compare_readings(&trees);
     compare_questions(&trees);
+    compare_cabinets(&trees);
 }

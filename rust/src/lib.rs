@@ -1,5 +1,6 @@
 //! The Lyndon structure of a string: for each position the nearest smaller suffix before and after
-//! it, the letters they share, and the bracket tree of the previous smaller suffixes.
+//! it, the letters they share, and the bracket tree of the previous smaller suffixes. Many trees fit in
+//! one cabinet file, written by [`cabinet_write`] and read by [`cabinet_read`].
 //!
 //! This is a safe wrapper of `liblyndon.a`. Nothing has to be tested before a call: every input is
 //! answered, by a value or by a [`Refusal`], and a refusal writes nothing to the lent memory.
@@ -38,20 +39,25 @@ pub mod raw;
 /// The greatest number of letters that is taken.
 pub const MAX_LETTERS: usize = 1_000_000;
 
-/// Why an input is refused. Where several apply, the one with the lowest number is returned.
+/// The greatest number of entries that a cabinet has.
+pub const MAX_ENTRIES: usize = 64;
+
+/// Why an input is refused. Where several apply, the one with the lowest number is returned;
+/// [`cabinet_write`] and [`cabinet_read`] test in an order of their own, which is given there.
 #[derive(Debug, Clone, Copy, PartialEq, Eq, Hash)]
 #[repr(u32)]
 pub enum Refusal {
-    /// 1: n above 1,000,000.
+    /// 1: n above 1,000,000. Writing a cabinet: a letter count above 1,000,000.
     TooLong = 1,
     /// 2: a lent table not exactly n entries of 32 bits long (four tables for the build, previous and
     /// next for reading a tree).
     TableLength = 2,
-    /// 3: the tree not exactly ceil(n/4) bytes.
+    /// 3: the tree not exactly ceil(n/4) bytes. Writing a cabinet: the trees or the buffer not exactly
+    /// as many bytes as the letter counts ask for.
     TreeLength = 3,
     /// 4: more rows asked than n.
     TooManyRows = 4,
-    /// 5: a position not below n.
+    /// 5: a position not below n. Reading a cabinet: an entry not below the count.
     PositionOutside = 5,
     /// 6: a spare bit is 1.
     SpareBitSet = 6,
@@ -59,11 +65,18 @@ pub enum Refusal {
     ClosedTooEarly = 7,
     /// 8: no such place, but not all are closed.
     LeftOpen = 8,
+    /// 9: a cabinet file under 8 bytes or with another mark than `LYN1`.
+    NotMarked = 9,
+    /// 10: a cabinet with a count above 64.
+    TooManyEntries = 10,
+    /// 11: a cabinet file whose contents are cut short, with a place that is not the end of what comes
+    /// before it, with bytes missing or left over at the end, or with a letter count above 1,000,000.
+    WrongContents = 11,
 }
 
 impl Refusal {
     /// All refusals, by their numbers.
-    pub const ALL: [Refusal; 8] = [
+    pub const ALL: [Refusal; 11] = [
         Refusal::TooLong,
         Refusal::TableLength,
         Refusal::TreeLength,
@@ -72,9 +85,12 @@ impl Refusal {
         Refusal::SpareBitSet,
         Refusal::ClosedTooEarly,
         Refusal::LeftOpen,
+        Refusal::NotMarked,
+        Refusal::TooManyEntries,
+        Refusal::WrongContents,
     ];
 
-    /// The refusal's number, 1 to 8.
+    /// The refusal's number, 1 to 11.
     pub fn number(self) -> u32 {
         self as u32
     }
@@ -96,12 +112,23 @@ impl fmt::Display for Refusal {
         let text = match self {
             Refusal::TooLong => "more than 1,000,000 letters",
             Refusal::TableLength => "a lent table is not exactly n entries long",
-            Refusal::TreeLength => "the tree is not exactly ceil(n/4) bytes long",
+            Refusal::TreeLength => {
+                "the tree is not exactly ceil(n/4) bytes long, \
+                or a cabinet's trees or buffer have another length than its letter counts ask for"
+            }
             Refusal::TooManyRows => "more rows asked than letters",
-            Refusal::PositionOutside => "the position is not below n",
+            Refusal::PositionOutside => {
+                "the position is not below n, or a cabinet's entry is not below its count"
+            }
             Refusal::SpareBitSet => "a spare bit of the tree is 1",
             Refusal::ClosedTooEarly => "the tree closes a bracket that is not open",
             Refusal::LeftOpen => "the tree leaves a bracket open",
+            Refusal::NotMarked => "the file has under 8 bytes or another mark than LYN1",
+            Refusal::TooManyEntries => "more than 64 entries",
+            Refusal::WrongContents => {
+                "the file's contents are cut short, do not fit its length or each other, \
+                or hold a letter count above 1,000,000"
+            }
         };
         write!(f, "refused {}: {text}", self.number())
     }
@@ -232,6 +259,85 @@ pub fn longest_word(letters: &[u8], position: usize) -> Result<&[u8], Refusal> {
     // SAFETY: the pointer comes from a slice with its length.
     let reply = unsafe { raw::lyndon_word(letters.as_ptr(), letters.len(), position) };
     Refusal::check(reply.refusal).map(|()| &letters[reply.start..][..reply.length])
+}
+
+/// The length in bytes of the cabinet file of trees with these letter counts: 8, and for each count n
+/// 8 and [`tree_length`]`(n)`.
+///
+/// This is the length of the buffer that [`cabinet_write`] fills. Counts that it refuses are answered
+/// too, with the greatest `usize` where the sum is above it.
+pub fn cabinet_length(counts: &[u32]) -> usize {
+    counts.iter().fold(8_usize, |length, &n| {
+        length.saturating_add(8 + tree_length(n as usize))
+    })
+}
+
+/// Writes a cabinet file, which holds many trees, into lent memory.
+///
+/// `trees` holds the trees end to end, in the order of their letter counts. `file` has
+/// [`cabinet_length`]`(counts)` bytes. All of them are written, whatever they held before:
+///
+/// - the four bytes `LYN1`;
+/// - the number of entries; each number in the file has 32 bits, the lowest byte first;
+/// - for each entry the place of its tree from the file's first byte, and its letter count;
+/// - the trees.
+///
+/// ```
+/// let counts = [6, 2];
+/// let trees = [lyndon::Structure::of(b"banana")?.tree, lyndon::Structure::of(b"ba")?.tree].concat();
+/// let mut file = vec![0; lyndon::cabinet_length(&counts)];
+/// lyndon::cabinet_write(&counts, &trees, &mut file)?;
+/// assert_eq!(file[..16], *b"LYN1\x02\0\0\0\x18\0\0\0\x06\0\0\0");
+/// assert_eq!(file[16..], *b"\x1a\0\0\0\x02\0\0\0\xcd\x04\x05");
+///
+/// let banana = lyndon::cabinet_read(&file, 0)?;
+/// assert_eq!((banana.letters, banana.tree), (6, &file[24..26]));
+/// assert_eq!(lyndon::next(banana.letters, banana.tree, 1)?, 3);
+/// # Ok::<(), lyndon::Refusal>(())
+/// ```
+///
+/// # Errors
+///
+/// Refusals 10, 1, 3, tested in this order, then 6, 7, 8 tree by tree: the first faulty tree decides.
+/// Nothing is written then.
+pub fn cabinet_write(counts: &[u32], trees: &[u8], file: &mut [u8]) -> Result<(), Refusal> {
+    // SAFETY: each pointer comes from a slice with its length, and exclusive slices do not overlap.
+    let number = unsafe {
+        raw::lyndon_cabinet_write(
+            counts.as_ptr(),
+            counts.len(),
+            trees.as_ptr(),
+            trees.len(),
+            file.as_mut_ptr(),
+            file.len(),
+        )
+    };
+    Refusal::check(number)
+}
+
+/// One tree of a cabinet file.
+#[derive(Debug, Clone, Copy, PartialEq, Eq, Hash)]
+pub struct CabinetEntry<'a> {
+    /// The letter count: the n that [`read`] and the questions take beside the tree.
+    pub letters: usize,
+    /// The tree, as a part of the file itself.
+    pub tree: &'a [u8],
+}
+
+/// Checks a whole cabinet file, whichever entry is asked for, and gives the tree of `entry`, which
+/// starts at the place that the contents give. Entries count from 0.
+///
+/// # Errors
+///
+/// Refusals 9, 10, 11, 5, tested in this order, then 6, 7, 8 tree by tree: the first faulty tree
+/// decides.
+pub fn cabinet_read(file: &[u8], entry: usize) -> Result<CabinetEntry<'_>, Refusal> {
+    // SAFETY: the pointer comes from a slice with its length.
+    let reply = unsafe { raw::lyndon_cabinet_read(file.as_ptr(), file.len(), entry) };
+    Refusal::check(reply.refusal).map(|()| CabinetEntry {
+        letters: reply.letters as usize,
+        tree: &file[reply.start..][..reply.length],
+    })
 }
 
 /// The tables and the tree of a string, in memory of their own. See [`build`].

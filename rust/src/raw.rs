@@ -39,6 +39,20 @@ pub struct PartReply {
     pub length: usize,
 }
 
+/// A tree in a cabinet file.
+#[repr(C)]
+#[derive(Debug, Clone, Copy, PartialEq, Eq)]
+pub struct CabinetReply {
+    /// The refusal's number, 0 where not refused.
+    pub refusal: u32,
+    /// The tree's letter count, 0 where refused.
+    pub letters: u32,
+    /// Where the tree starts in the file, 0 where refused.
+    pub start: usize,
+    /// The tree's length in bytes, 0 where refused.
+    pub length: usize,
+}
+
 /// [`lyndon_build`] over slices.
 pub fn build(
     letters: &[u8],
@@ -135,4 +149,25 @@ extern "C" {
     ///
     /// `letters` is not null and points to `letters_length` bytes.
     pub fn lyndon_word(letters: *const u8, letters_length: usize, position: usize) -> PartReply;
+
+    /// Writes a cabinet file. Returns the refusal's number, 0 where written.
+    ///
+    /// # Safety
+    ///
+    /// As for [`lyndon_build`].
+    pub fn lyndon_cabinet_write(
+        counts: *const u32,
+        counts_length: usize,
+        trees: *const u8,
+        trees_length: usize,
+        file: *mut u8,
+        file_length: usize,
+    ) -> u32;
+
+    /// Checks a whole cabinet file and finds the tree of one entry.
+    ///
+    /// # Safety
+    ///
+    /// `file` is not null and points to `file_length` bytes.
+    pub fn lyndon_cabinet_read(file: *const u8, file_length: usize, entry: usize) -> CabinetReply;
 }

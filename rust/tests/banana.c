@@ -2,14 +2,17 @@
 #include "lyndon.h"
 
 #include <stdio.h>
+#include <string.h>
 
 #define N 6
 #define TREE_LENGTH ((N + 3) / 4)
+#define ENTRIES 2
+#define FILE_LENGTH (8 + 8 * ENTRIES + TREE_LENGTH)
 
 static const uint8_t letters[N] = {'b', 'a', 'n', 'a', 'n', 'a'};
 static uint32_t previous[N], next[N], previous_match[N], next_match[N];
 static uint32_t previous_read[N], next_read[N];
-static uint8_t tree[TREE_LENGTH];
+static uint8_t tree[TREE_LENGTH], file[FILE_LENGTH];
 
 static int failed(const char *what)
 {
@@ -29,6 +32,21 @@ static int tree_agrees(size_t i)
         && k.refusal == 0 && (tree[k.value / 8] >> (k.value % 8) & 1) == 1;
 }
 
+/* Whether a cabinet of an empty tree and of the tree gives both back, and no third one. */
+static int cabinet_agrees(void)
+{
+    static const uint32_t counts[ENTRIES] = {0, N};
+    uint32_t refusal = lyndon_cabinet_write(counts, ENTRIES, tree, TREE_LENGTH, file, FILE_LENGTH);
+    CabinetReply empty = lyndon_cabinet_read(file, FILE_LENGTH, 0);
+    CabinetReply banana = lyndon_cabinet_read(file, FILE_LENGTH, 1);
+    CabinetReply none = lyndon_cabinet_read(file, FILE_LENGTH, ENTRIES);
+    return refusal == 0
+        && empty.refusal == 0 && empty.letters == 0 && empty.length == 0
+        && banana.refusal == 0 && banana.letters == N && banana.length == TREE_LENGTH
+        && memcmp(file + banana.start, tree, TREE_LENGTH) == 0
+        && none.refusal == 5 && none.letters == 0 && none.start == 0 && none.length == 0;
+}
+
 int main(void)
 {
     size_t i;
@@ -42,6 +60,9 @@ int main(void)
     }
     if (lyndon_previous(N, tree, TREE_LENGTH, N).refusal != 5) {
         return failed("a position outside the tree");
+    }
+    if (!cabinet_agrees()) {
+        return failed("the cabinet and the tree differ");
     }
 
     printf("length %d comparisons %lu tree ", N, (unsigned long)built.comparisons);

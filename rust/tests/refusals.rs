@@ -1,5 +1,5 @@
-//! Every refusal and every pair of refusals of every operation: the lowest number is returned, all
-//! other figures are 0, and nothing is written.
+//! Every refusal and every pair of refusals of every operation but the cabinet's two: the lowest number
+//! is returned, all other figures are 0, and nothing is written.
 
 mod common;
 
@@ -335,10 +335,10 @@ fn structures_in_memory_of_their_own() {
 #[test]
 fn refusals_have_their_numbers() {
     let numbers = Refusal::ALL.map(Refusal::number);
-    assert_eq!(numbers, [1, 2, 3, 4, 5, 6, 7, 8]);
+    assert_eq!(numbers, [1, 2, 3, 4, 5, 6, 7, 8, 9, 10, 11]);
     assert_eq!(lyndon::MAX_LETTERS, LIMIT);
     assert_eq!(
-        Refusal::TreeLength.to_string(),
-        "refused 3: the tree is not exactly ceil(n/4) bytes long"
+        Refusal::LeftOpen.to_string(),
+        "refused 8: the tree leaves a bracket open"
     );
 }

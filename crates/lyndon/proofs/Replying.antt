@@ -1,5 +1,5 @@
 -- From what a called function answers to what is replied.
-use mathlib.Core.Path.{_≡_, sym, ap, _∙_}
+use mathlib.Core.Path.{_≡_, ap, _∙_}
 use mathlib.Core.List.{List}
 use Prim.Native.Nat.{ℕ}
 use Rattle.build.specs.declared.Built.{Built}
@@ -8,9 +8,10 @@ use Rattle.refusal.specs.declared.Verdict.{Verdict}
 use Rattle.refusal.specs.Numbers.{verdictNumber}
 use Rattle.brackets.specs.Answers as brackets
 use Rattle.questions.specs.Answers as questions
+use Rattle.cabinet.specs.Answers.{Written}
 use Rattle.lyndon.specs.declared.BuildReply.{BuildReply}
 use Rattle.lyndon.specs.declared.Reply.{Reply}
-use Rattle.lyndon.specs.Replies.{buildReply, BuildReplied, ReadReplied, reply}
+use Rattle.lyndon.specs.Replies.{buildReply, BuildReplied, ReadReplied, WriteReplied, reply}
 
 -- a build that answers with a, and a reply with the figures of a
 pub built :
@@ -18,11 +19,17 @@ pub built :
     → given ≡ buildReply (build.figuresOf a) → BuildReplied letters R before after given
 built e z = record { replies = z ∙ ap buildReply (e .answers); leaves = e .leaves; bounded = e .bounded }
 
--- a reading with the verdict b, and its number
+-- a reading, and the number of its verdict
 pub read :
-    {n : ℕ} {tree : List ℕ} {before after : brackets.Lent} {a b : Verdict} {number : ℕ} → brackets.ReadBack n tree before after a → a ≡ b
-    → number ≡ verdictNumber b → ReadReplied n tree before after number
-read e q z = record { replies = z ∙ ap verdictNumber (sym q) ∙ e .answers; leaves = e .leaves }
+    {n : ℕ} {tree : List ℕ} {before after : brackets.Lent} {verdict : Verdict} {number : ℕ} → brackets.ReadBack n tree before after verdict
+    → number ≡ verdictNumber verdict → ReadReplied n tree before after number
+read e z = record { replies = z ∙ e .answers; leaves = e .leaves }
+
+-- a cabinet file written, likewise
+pub written :
+    {counts trees before after : List ℕ} {verdict : Verdict} {number : ℕ} → Written counts trees before after verdict → number ≡ verdictNumber verdict
+    → WriteReplied counts trees before after number
+written e z = record { replies = z ∙ e .answers; leaves = e .leaves }
 
 -- a question
 pub answered : {given : Reply} {a b : questions.Figures} → given ≡ reply a → a ≡ b → given ≡ reply b

@@ -8,9 +8,12 @@ use Rattle.build.specs.Built as build
 use Rattle.brackets.specs.Answers as brackets
 use Rattle.questions.specs.Answers as questions
 use Rattle.word.specs.Word.{wordPart, wordStart}
+use Rattle.cabinet.specs.Refusals.{writeRefusal, readRefusal}
+use Rattle.cabinet.specs.Answers.{writtenFile, readBody, readPlace, readLetters}
 use Rattle.lyndon.specs.declared.BuildReply.{BuildReply}
 use Rattle.lyndon.specs.declared.Reply.{Reply}
 use Rattle.lyndon.specs.declared.PartReply.{PartReply}
+use Rattle.lyndon.specs.declared.CabinetReply.{CabinetReply}
 
 -- "A refusal carries its number and no other figure": the others are 0
 abbrev pub buildReply : build.Figures → BuildReply
@@ -38,3 +41,13 @@ reply (questions.refused number) = record { refusal = number; value = 0 }
 abbrev pub wordReply : List ℕ → ℕ → PartReply
 wordReply letters position =
     record { refusal = wordRefusal (length letters) position; start = wordStart letters position; length = length (wordPart letters position) }
+
+-- writing a cabinet file
+pub record WriteReplied (counts trees before after : List ℕ) (number : ℕ) : Type 0 where
+  pub replies : number ≡ writeRefusal counts trees (length before)
+  pub leaves : after ≡ writtenFile counts trees before
+
+-- reading one: the entry's letter count, where its body starts in the file, and the body's length
+abbrev pub cabinetReply : List ℕ → ℕ → CabinetReply
+cabinetReply file entry =
+    record { refusal = readRefusal file entry; letters = readLetters file entry; start = readPlace file entry; length = length (readBody file entry) }

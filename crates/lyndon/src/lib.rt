@@ -2,10 +2,9 @@
 ghost use mathlib.Core.Path.{_≡_};
 ghost use Rattle.build.specs.Built.{lent, figuresOf as builtFigures};
 ghost use Rattle.questions.specs.Answers.{figuresOf, previousAnswer, nextAnswer, placeAnswer};
-ghost use Rattle.lyndon.specs.Replies.{BuildReplied, ReadReplied, buildReply, reply, wordReply};
+ghost use Rattle.lyndon.specs.Replies.{BuildReplied, ReadReplied, WriteReplied, buildReply, reply, wordReply, cabinetReply};
 use build::Built;
 use questions::Answer;
-use refusal::Verdict;
 
 #[repr(C)]
 pub struct BuildReply {
@@ -25,6 +24,14 @@ pub struct Reply {
 #[repr(C)]
 pub struct PartReply {
     pub refusal: u32,
+    pub start: usize,
+    pub length: usize,
+}
+
+#[repr(C)]
+pub struct CabinetReply {
+    pub refusal: u32,
+    pub letters: u32,
     pub start: usize,
     pub length: usize,
 }
@@ -91,11 +98,7 @@ pub extern "C" fn lyndon_read(n: usize, tree: &[u8], previous: &mut [u32], next:
         (record { previous = now (previous .exit); next = now (next .exit) })
         r ⌝ }
 {
-    let verdict = brackets::read(n, tree, previous, next);
-    match verdict {
-        Verdict::Accepted => 0,
-        Verdict::Refused(k) => refusal::number(k),
-    }
+    refusal::verdict_number(brackets::read(n, tree, previous, next))
 }
 
 fn reply_of(answer: Answer) -> Reply
@@ -152,5 +155,28 @@ pub extern "C" fn lyndon_word(letters: &[u8], position: usize) -> PartReply
         refusal: 0,
         start: position,
         length,
+    }
+}
+
+#[no_mangle]
+pub extern "C" fn lyndon_cabinet_write(counts: &[u32], trees: &[u8], file: &mut [u8]) -> u32
+    ensures { λ r. ⌜ WriteReplied (now (counts .entry)) (now (trees .entry)) (now (file .entry)) (now (file .exit)) r ⌝ }
+{
+    refusal::verdict_number(cabinet_writer::write(counts, trees, file))
+}
+
+#[no_mangle]
+pub extern "C" fn lyndon_cabinet_read(file: &[u8], entry: usize) -> CabinetReply
+    ensures { λ r. ⌜ r ≡ cabinetReply (now (file .entry)) entry ⌝ }
+{
+    let mut refused = 0;
+    let mut letters = 0;
+    let mut place = 0;
+    let body = cabinet_reader::read(file, entry, &mut refused, &mut letters, &mut place);
+    CabinetReply {
+        refusal: refused,
+        letters,
+        start: place,
+        length: body.len(),
     }
 }

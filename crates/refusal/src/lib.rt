@@ -1,4 +1,4 @@
-// Why an operation refuses: document 01, "Who can cause which refusal".
+// Why an operation refuses: document 01, "Who can cause which refusal", and document 02, T-01.
 ghost use mathlib.Core.Path.{_≡_};
 ghost use Rattle.refusal.specs.Numbers.{numberOf, verdictNumber};
 ghost use Rattle.refusal.specs.Conditions.{buildRefusal};
@@ -12,6 +12,9 @@ pub enum Refusal {
     SpareBitSet,
     ClosedTooEarly,
     LeftOpen,
+    NotMarked,
+    TooManyEntries,
+    WrongContents,
 }
 
 // Whether an operation takes what it is given.
@@ -33,6 +36,19 @@ pub fn number(refusal: Refusal) -> u32
         Refusal::SpareBitSet => 6,
         Refusal::ClosedTooEarly => 7,
         Refusal::LeftOpen => 8,
+        Refusal::NotMarked => 9,
+        Refusal::TooManyEntries => 10,
+        Refusal::WrongContents => 11,
+    }
+}
+
+// The number of a verdict: 0 where nothing is refused.
+pub fn verdict_number(verdict: Verdict) -> u32
+    ensures { λ r. ⌜ r ≡ verdictNumber verdict ⌝ }
+{
+    match verdict {
+        Verdict::Accepted => 0,
+        Verdict::Refused(k) => number(k),
     }
 }
 

@@ -16,8 +16,10 @@ use Rattle.refusal.specs.Conditions.{buildRefusal}
 use Rattle.build.specs.declared.Built.{Built}
 use Rattle.build.specs.Built.{Lent, lentAfter, comparisons, figuresOf, refusalOf, answer, lentAtExit, BuiltExactly}
 use Rattle.tables.specs.Text.{headText, lines, tablesText, tooLongText, programText, Rendered}
-use Rattle.tables.specs.Buffers.{Wrote, Room, WholeBuild, countOf}
-use Rattle.tables.proofs.Writes.{wrote-then, head-most}
+use Rattle.writing.specs.Writing.{Wrote}
+use Rattle.tables.specs.Buffers.{Room, WholeBuild, countOf}
+use Rattle.writing.proofs.Writes.{wrote-then}
+use Rattle.tables.proofs.Sizes.{head-most}
 
 taken : {n p q pm qm t : ℕ} → Room n p q pm qm t → buildRefusal n n p q pm qm t ≡ 0
 unfolding buildRefusal lowest lowestFrom

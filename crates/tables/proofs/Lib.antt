@@ -1,4 +1,4 @@
 pub mod Places
-pub mod Writes
+pub mod Sizes
 pub mod Builds
 pub mod Examples

@@ -1,17 +1,11 @@
--- What the contracts of the private functions are written with: a text in a buffer, and the tables and the tree of a string in lent memory.
+-- What the contracts of the private functions are written with: the tables and the tree of a string in lent memory.
 use mathlib.Core.Path.{_≡_}
-use mathlib.Core.List.{List, _++_}
-use Prim.Native.Nat.{ℕ, _+_, _≤_, _<_}
-use lib.ListN.{length, getD, take, drop}
+use mathlib.Core.List.{List}
+use Prim.Native.Nat.{ℕ, _≤_, _<_}
+use lib.ListN.{length, getD}
 use Rattle.suffix.specs.Nearest.{previous, next}
 use Rattle.suffix.specs.Tree.{treeBytes, treeLength}
 use Rattle.build.specs.Built.{comparisons, Figures, finished, halted, refused}
-
--- the text t was put into a at x, which made b; it ends at z, and what stands before and behind it is as it was
-pub record Wrote (a b t : List ℕ) (x z : ℕ) : Type 0 where
-  pub size : z ≡ x + length t
-  pub text : take z b ≡ take x a ++ t
-  pub rest : drop z b ≡ drop z a
 
 -- memory for n positions: four tables and a tree, by their lengths
 pub record Room (n p q pm qm t : ℕ) : Type 0 where

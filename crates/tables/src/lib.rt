@@ -9,7 +9,8 @@ ghost use lib.ListN.{length};
 ghost use Rattle.io.specs.Digits.{digits};
 ghost use Rattle.build.specs.Built.{figuresOf};
 ghost use Rattle.tables.specs.Text.{decimal, hexes, treeText, field, orDash, figure, lines, lineText, headText, tablesText, Rendered};
-ghost use Rattle.tables.specs.Buffers.{Wrote, Room, Nearests, WholeBuild, countOf};
+ghost use Rattle.writing.specs.Writing.{Wrote};
+ghost use Rattle.tables.specs.Buffers.{Room, Nearests, WholeBuild, countOf};
 
 fn wide(x: u8) -> u64
     ensures { λ r. ⌜ r ≡ x ⌝ }

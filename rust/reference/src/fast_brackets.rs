@@ -49,7 +49,7 @@ fn is_open(tree: &[u8], k: usize) -> bool {
 }
 
 /// The refusal 1, 3, 6, 7 or 8 of a tree of `n` positions.
-fn judge(n: usize, tree: &[u8]) -> Result<(), u32> {
+pub fn judge(n: usize, tree: &[u8]) -> Result<(), u32> {
     if n > MAX_LETTERS {
         return Err(1);
     }

@@ -1,16 +1,19 @@
 //! A plain Rust reference for the Lyndon structure of a string. It is written from the definitions of
-//! document 01 and shares no code with the library that it is compared with.
+//! document 01, and of document 02 for the cabinet, and shares no code with the library that it is
+//! compared with.
 //!
 //! - [`definitions`]: suffixes, tables, tree, reach and Lyndon words, each as defined;
 //! - [`steps`]: the reuse steps 1 to 4, which define the count of comparisons;
 //! - [`brackets`]: a tree judged, read and questioned bit by bit;
 //! - [`refusals`]: which refusals apply to an operation's input;
+//! - [`cabinet`]: a file of many trees, written and read;
 //! - [`fast`] and [`fast_brackets`]: the same answers, usable at 1,000,000 letters;
 //! - [`samples`]: random numbers, strings and trees for tests.
 
 #![warn(missing_docs)]
 
 pub mod brackets;
+pub mod cabinet;
 pub mod definitions;
 pub mod fast;
 pub mod fast_brackets;

@@ -1,6 +1,6 @@
 -- `tables::put_byte` meets its contract.
 use borrow.Author.Needs.{needs}
-use Rattle.tables.proofs.Writes.{wrote-byte}
+use Rattle.writing.proofs.Writes.{wrote-byte}
 use Rattle.tables.proofs.put_byte.Statement.{statement}
 use Rattle.tables.proofs.put_byte.Tie as tie
 

@@ -2,7 +2,8 @@
 use native.Mathlib.Omega.{arith}
 use borrow.Author.Needs.{needs}
 use Rattle.tables.specs.Text.{field}
-use Rattle.tables.proofs.Writes.{wrote-then, field-size}
+use Rattle.writing.proofs.Writes.{wrote-then}
+use Rattle.tables.proofs.Sizes.{field-size}
 use Rattle.tables.proofs.put_field.Statement.{statement}
 use Rattle.tables.proofs.put_field.Tie as tie
 

@@ -1,7 +1,8 @@
 -- `tables::put_figure` meets its contract.
 use native.Mathlib.Omega.{arith}
 use Rattle.tables.specs.Text.{figure}
-use Rattle.tables.proofs.Writes.{wrote-then, figure-size}
+use Rattle.writing.proofs.Writes.{wrote-then}
+use Rattle.tables.proofs.Sizes.{figure-size}
 use borrow.Author.Needs.{needs}
 use Rattle.tables.proofs.put_figure.Statement.{statement}
 use Rattle.tables.proofs.put_figure.Tie as tie

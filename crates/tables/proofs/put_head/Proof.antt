@@ -1,7 +1,8 @@
 -- `tables::put_head` meets its contract: five writes, one behind the other.
 use native.Mathlib.Omega.{arith}
 use Rattle.tables.specs.Text.{headText}
-use Rattle.tables.proofs.Writes.{wrote-then, head-size}
+use Rattle.writing.proofs.Writes.{wrote-then}
+use Rattle.tables.proofs.Sizes.{head-size}
 use borrow.Author.Needs.{needs}
 use Rattle.tables.proofs.put_head.Statement.{statement}
 use Rattle.tables.proofs.put_head.Tie as tie

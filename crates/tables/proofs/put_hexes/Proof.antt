@@ -4,8 +4,9 @@ use Prim.Native.Nat.{_-_, _≤_}
 use native.Mathlib.Omega.{arith}
 use lib.ListN.{length}
 use Rattle.tables.specs.Text.{hexes}
-use Rattle.tables.specs.Buffers.{Wrote}
-use Rattle.tables.proofs.Writes.{wrote-none, wrote-then, hexes-more, hexes-size}
+use Rattle.writing.specs.Writing.{Wrote}
+use Rattle.writing.proofs.Writes.{wrote-none, wrote-then}
+use Rattle.tables.proofs.Sizes.{hexes-more, hexes-size}
 use Rattle.tables.proofs.put_hexes.Statement.{statement}
 use Rattle.tables.proofs.put_hexes.Tie as tie
 

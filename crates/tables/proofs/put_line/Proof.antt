@@ -2,7 +2,8 @@
 use native.Mathlib.Omega.{arith}
 use borrow.Author.Needs.{needs}
 use Rattle.tables.specs.Text.{lineText}
-use Rattle.tables.proofs.Writes.{wrote-then, line-size}
+use Rattle.writing.proofs.Writes.{wrote-then}
+use Rattle.tables.proofs.Sizes.{line-size}
 use Rattle.tables.proofs.put_line.Statement.{statement}
 use Rattle.tables.proofs.put_line.Tie as tie
 

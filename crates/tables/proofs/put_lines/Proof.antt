@@ -7,8 +7,9 @@ use Prim.Native.Nat.{_+_, _-_, _≤_, _<_}
 use native.Mathlib.Omega.{arith}
 use lib.ListN.{length, length-append}
 use Rattle.tables.specs.Text.{lines, lineText}
-use Rattle.tables.specs.Buffers.{Wrote}
-use Rattle.tables.proofs.Writes.{wrote-none, wrote-then, lines-more, lines-up}
+use Rattle.writing.specs.Writing.{Wrote}
+use Rattle.writing.proofs.Writes.{wrote-none, wrote-then}
+use Rattle.tables.proofs.Sizes.{lines-more, lines-up}
 use Rattle.tables.proofs.put_lines.Statement.{statement}
 use Rattle.tables.proofs.put_lines.Tie as tie
 

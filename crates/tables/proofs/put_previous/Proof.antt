@@ -3,7 +3,7 @@ use mathlib.Core.Path.{ap}
 use native.Mathlib.Omega.{arith}
 use lib.ListN.{length}
 use borrow.Author.Needs.{needs}
-use Rattle.tables.proofs.Writes.{dash, no-dash}
+use Rattle.tables.proofs.Sizes.{dash, no-dash}
 use Rattle.tables.proofs.put_previous.Statement.{statement}
 use Rattle.tables.proofs.put_previous.Tie as tie
 

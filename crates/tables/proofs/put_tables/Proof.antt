@@ -2,7 +2,7 @@
 use native.Mathlib.Omega.{arith}
 use lib.ListN.{length}
 use Rattle.tables.proofs.Builds.{head-fits, wrote-tables}
-use Rattle.tables.proofs.Writes.{lines-most}
+use Rattle.tables.proofs.Sizes.{lines-most}
 use borrow.Author.Needs.{needs}
 use Rattle.tables.proofs.put_tables.Statement.{statement}
 use Rattle.tables.proofs.put_tables.Tie as tie

@@ -3,7 +3,7 @@ use mathlib.Core.Path.{ap}
 use native.Mathlib.Omega.{arith}
 use lib.ListN.{length}
 use borrow.Author.Needs.{needs}
-use Rattle.tables.proofs.Writes.{tree-none, tree-some}
+use Rattle.tables.proofs.Sizes.{tree-none, tree-some}
 use Rattle.tables.proofs.put_tree.Statement.{statement}
 use Rattle.tables.proofs.put_tree.Tie as tie
 

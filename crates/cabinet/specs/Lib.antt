@@ -1,0 +1,5 @@
+pub mod LittleEndian
+pub mod File
+pub mod Refusals
+pub mod Answers
+pub mod Claims

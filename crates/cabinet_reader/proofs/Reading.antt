@@ -1,0 +1,74 @@
+-- Contents that are looked through entry by entry.
+use mathlib.Core.Path.{_≡_, refl, sym, ap, _∙_}
+use mathlib.Core.Logic.{_≢_}
+use mathlib.Core.Bool.{Bool, true, false, not, true≢false}
+use mathlib.Core.List.{List}
+use Prim.Native.Nat.{ℕ, _+_, _*_, _≤_, _<_}
+use native.Mathlib.Omega.{arith}
+use lib.Dec.{eqb}
+use lib.ListN.{length, take}
+use borrow.Author.Tests.{eq-eqb, ne-eqb}
+use Rattle.suffix.specs.Search.{sumBelow}
+use Rattle.suffix.specs.Tree.{treeLength}
+use Rattle.suffix.proofs.Cases.{Same, same, other, same?}
+use Rattle.cabinet.specs.File.{mark, contentsEnd, countOf, placeOf, lettersOf, endBefore}
+use Rattle.cabinet.specs.Refusals.{notMarked, wrongContents}
+use Rattle.cabinet.proofs.Contents.{bytes-most, bytes-more}
+use Rattle.cabinet.proofs.Bodies.{and-here}
+use Rattle.cabinet.proofs.Conditions.{not-unmarked, unmarked, not-wrong, wrong}
+
+-- a comparison of the first four bytes with the mark tells whether the file is marked
+pub marked-by : (file : List ℕ) (r : Bool) → 8 ≤ length file → (r ≡ true → take 4 file ≡ mark) → (take 4 file ≡ mark → r ≡ true) → not r ≡ notMarked file
+marked-by file true h p q = sym (not-unmarked file (record { long = h; begins = p refl }))
+marked-by file false h p q = sym (unmarked file (λ M. true≢false (sym (q (M .begins)))))
+
+pub under-eight : (file : List ℕ) → length file < 8 → true ≡ notMarked file
+under-eight file h = sym (unmarked file (λ M. omega (arith, M .long)))
+
+-- k entries are right, and their bodies end at `end`
+pub record RightTo (file : List ℕ) (k end : ℕ) : Type 0 where
+  pub whole : contentsEnd (countOf file) ≤ length file
+  pub ends : end ≡ endBefore file k
+  pub places : (j : ℕ) → j < k → placeOf file j ≡ endBefore file j
+  pub short : (j : ℕ) → j < k → lettersOf file j ≤ 1000000
+
+module _ (file : List ℕ) where
+  pub right-none : contentsEnd (countOf file) ≤ length file → RightTo file 0 (contentsEnd (countOf file))
+  unfolding sumBelow
+  right-none h = record { whole = h; ends = omega arith; places = λ j w. absurd (omega arith); short = λ j w. absurd (omega arith) }
+
+  pub too-short : length file < contentsEnd (countOf file) → wrongContents file ≡ true
+  too-short h = wrong file (λ R. omega (arith, R .whole))
+
+  module _ {k end : ℕ} (S : RightTo file k end) where
+    pub end-most : end ≤ contentsEnd (countOf file) + 250000 * k
+    end-most = omega (arith, S .ends, bytes-most (lettersOf file) k (S .short))
+
+    pub right-more : placeOf file k ≡ end → lettersOf file k ≤ 1000000 → RightTo file (k + 1) (end + treeLength (lettersOf file k))
+    right-more p n =
+        record {
+          whole = S .whole;
+          ends = omega (arith, S .ends, bytes-more (lettersOf file) k);
+          places = and-here (λ i. placeOf file i ≡ endBefore file i) k (S .places) (p ∙ S .ends);
+          short = and-here (λ i. lettersOf file i ≤ 1000000) k (S .short) n;
+        }
+
+    module _ (c : k ≡ countOf file) where
+      end-of : end ≡ endBefore file (countOf file)
+      end-of = S .ends ∙ ap (endBefore file) c
+
+      pub wrong-end : not (eqb end (length file)) ≡ wrongContents file
+      wrong-end = go (same? end (length file))
+        where
+          go : Same end (length file) → not (eqb end (length file)) ≡ wrongContents file
+          go (same e) =
+              ap not (eq-eqb end (length file) e)
+              ∙ sym (not-wrong file (record { whole = S .whole; places = λ j w. S .places j (omega arith); ends = sym e ∙ end-of; short = λ j w. S .short j (omega arith) }))
+          go (other q) = ap not (ne-eqb end (length file) q) ∙ sym (wrong file (λ R. q (end-of ∙ sym (R .ends))))
+
+    module _ (h : k < countOf file) where
+      pub wrong-place : placeOf file k ≢ end → wrongContents file ≡ true
+      wrong-place q = wrong file (λ R. q (R .places k h ∙ sym (S .ends)))
+
+      pub wrong-letters : 1000000 < lettersOf file k → wrongContents file ≡ true
+      wrong-letters q = wrong file (λ R. omega (arith, R .short k h))

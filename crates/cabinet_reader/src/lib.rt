@@ -1,0 +1,131 @@
+// The reader of cabinet files: document 02, T-01.
+ghost use mathlib.Core.Path.{_≡_};
+ghost use mathlib.Core.Bool.{false};
+ghost use Prim.Native.Nat.{_+_, _*_, _≤_};
+ghost use lib.ListN.{length};
+ghost use Rattle.refusal.specs.Numbers.{verdictNumber};
+ghost use Rattle.cabinet.specs.LittleEndian.{numberAt};
+ghost use Rattle.cabinet.specs.File.{countOf};
+ghost use Rattle.cabinet.specs.Refusals.{notMarked, wrongContents, fileFlaw, readRefusal};
+ghost use Rattle.cabinet.specs.Answers.{EntryRead};
+use cabinet::tree_length;
+use refusal::Refusal;
+use refusal::Verdict;
+
+// Four bytes as a number, the lowest first.
+fn joined(a: u8, b: u8, c: u8, d: u8) -> u32
+    ensures { λ r. ⌜ r ≡ a + 256 * (b + 256 * (c + 256 * d)) ⌝ }
+{
+    a as u32 + 256 * (b as u32 + 256 * (c as u32 + 256 * d as u32))
+}
+
+// The number in the four bytes at a place.
+fn number_at(file: &[u8], at: usize) -> u32
+    requires { ⌜ at + 4 ≤ length (now file) ⌝ }
+    ensures { λ r. ⌜ r ≡ numberAt (now (file .entry)) at ⌝ }
+{
+    joined(file[at], file[at + 1], file[at + 2], file[at + 3])
+}
+
+// Whether the file is under 8 bytes or has another mark: 9.
+fn not_marked(file: &[u8]) -> bool
+    ensures { λ r. ⌜ r ≡ notMarked (now (file .entry)) ⌝ }
+{
+    if file.len() < 8 {
+        return true;
+    }
+    !check::same(&file[..4], b"LYN1")
+}
+
+// Whether the contents of so many entries are wrong: 11.
+fn wrong_contents(file: &[u8], count: usize) -> bool
+    requires { ⌜ (count ≡ countOf (now file)) × (count ≤ 64) ⌝ }
+    ensures { λ r. ⌜ r ≡ wrongContents (now (file .entry)) ⌝ }
+{
+    let mut end = 8 + 8 * count;
+    if file.len() < end {
+        return true;
+    }
+    let mut k = 0;
+    while k < count {
+        if number_at(file, 8 + 8 * k) as usize != end {
+            return true;
+        }
+        let n = number_at(file, 12 + 8 * k);
+        if n > 1000000 {
+            return true;
+        }
+        end += tree_length(n);
+        k += 1;
+    }
+    end != file.len()
+}
+
+// What is wrong with the first body that has a flaw.
+fn flaw_of(file: &[u8], count: usize) -> Verdict
+    requires { ⌜ (count ≡ countOf (now file)) × (count ≤ 64) × (wrongContents (now file) ≡ false) ⌝ }
+    ensures { λ r. ⌜ verdictNumber r ≡ fileFlaw (now (file .entry)) ⌝ }
+{
+    let mut start = 8 + 8 * count;
+    let mut k = 0;
+    while k < count {
+        let n = number_at(file, 12 + 8 * k);
+        let end = start + tree_length(n);
+        let verdict = brackets::verdict_on(n as usize, &file[start..end]);
+        match verdict {
+            Verdict::Refused(_) => {
+                return verdict;
+            }
+            Verdict::Accepted => {}
+        }
+        start = end;
+        k += 1;
+    }
+    Verdict::Accepted
+}
+
+// Whether the entry of the file is read: 9, 10, 11, 5, and 6 to 8 body by body.
+fn verdict_on(file: &[u8], entry: usize) -> Verdict
+    ensures { λ r. ⌜ verdictNumber r ≡ readRefusal (now (file .entry)) entry ⌝ }
+{
+    if not_marked(file) {
+        return Verdict::Refused(Refusal::NotMarked);
+    }
+    let count = number_at(file, 4) as usize;
+    if count > 64 {
+        return Verdict::Refused(Refusal::TooManyEntries);
+    }
+    if wrong_contents(file, count) {
+        return Verdict::Refused(Refusal::WrongContents);
+    }
+    if count <= entry {
+        return Verdict::Refused(Refusal::PositionOutside);
+    }
+    flaw_of(file, count)
+}
+
+// The body of an entry as a part of the file, with its letter count and its place. Refused, it is the empty part at the file's start, with
+// the number in `refused`, which is 0 otherwise.
+pub fn read<'a>(
+    file: &'a [u8],
+    entry: usize,
+    refused: &mut u32,
+    letters: &mut u32,
+    place: &mut usize,
+) -> &'a [u8]
+    ensures { λ r. ⌜ EntryRead (file .entry) entry (now (refused .exit)) (now (letters .exit)) (now (place .exit)) r ⌝ }
+{
+    let number = refusal::verdict_number(verdict_on(file, entry));
+    *refused = number;
+    if number != 0 {
+        *letters = 0;
+        *place = 0;
+        return &file[..0];
+    }
+    let n = number_at(file, 12 + 8 * entry);
+    let start = number_at(file, 8 + 8 * entry) as usize;
+    *letters = n;
+    *place = start;
+    let end = start + tree_length(n);
+    &file[start..end]
+}

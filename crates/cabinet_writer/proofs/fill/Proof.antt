@@ -1,0 +1,61 @@
+-- `cabinet_writer::fill` meets its contract.
+use Prim.Native.Nat.{_+_, _-_, _*_}
+use native.Mathlib.Omega.{arith}
+use lib.ListN.{length}
+use borrow.Author.Needs.{needs}
+use Rattle.writing.proofs.Writes.{wrote-then, wrote-part}
+use Rattle.cabinet.specs.File.{cabinet}
+use Rattle.cabinet_writer.proofs.Filling.{mark-put, filled}
+use Rattle.cabinet_writer.proofs.fill.Statement.{statement}
+use Rattle.cabinet_writer.proofs.fill.Tie as tie
+
+slice-aggregate-copy : tie.Need-slice-aggregate-copy
+slice-aggregate-copy c = search needs
+
+copy-requires : tie.Need-copy-requires
+copy-requires c κs = search needs
+
+cast-put-number : tie.Need-cast-put-number
+cast-put-number c = search needs
+
+put-number-requires : tie.Need-put-number-requires
+put-number-requires c κs = search needs
+
+put-contents-requires : tie.Need-put-contents-requires
+put-contents-requires c κs = search needs
+
+copy-requires-2 : tie.Need-copy-requires-2
+copy-requires-2 c κs = search needs
+
+returns : tie.Need-returns
+unfolding cabinet
+returns c =
+    let b = c .before .before in
+    let e = b .before .before .before .before in
+    let n = e .before .before .before .before in
+    let m = n .before .before .before .before in
+    let s = m .before .before .before .before .before .before in
+    let trees = s .args .trees .now in
+    let now = e .put-contents .last .1 .0 in
+    let at = 8 + 8 * length (s .args .counts .now) in
+    let bodies = wrote-part now trees (b .copy2 .last .1 .0) at (length now - at) (b .copy2 .result) (omega arith) (omega arith) (b .copy2 .ensures .0) (b .copy2 .ensures .1) in
+    filled (wrote-then (wrote-then (wrote-then (mark-put (s .args .file .now) (m .copy .last .1 .0) (m .copy .ensures .1)) (n .put-number .ensures)) (e .put-contents .ensures)) bodies)
+    (omega (arith, c .before .file4 .given, b .copy2 .ensures .0))
+
+pub fill-spec : {M : Type 1} → statement M
+fill-spec =
+    tie.close
+    (tie.spec
+    slice-aggregate-copy
+    copy-requires
+    cast-put-number
+    put-number-requires
+    put-contents-requires
+    (λ c. search needs)
+    (λ c. search needs)
+    (λ c. search needs)
+    (λ c. search needs)
+    (λ c. search needs)
+    copy-requires-2
+    (λ c. search needs)
+    returns)
