@@ -122,6 +122,20 @@ fn assert_written_again(file: &[u8]) {
     assert_list("the file written again", &again, file);
 }
 
+/// Asserts that the trees are written, and each entry of their file is read.
+fn assert_taken(counts: &[u32], trees: &[u8]) {
+    let file = check_writing(counts, trees, cabinet_length(counts)).expect("balanced trees");
+    assert_eq!(check_file(&file, counts.len()), BTreeSet::from([0, 5]));
+}
+
+/// Asserts that a writing is refused with one number, and every reading of the file with another.
+fn assert_refused(counts: &[u32], trees: &[u8], writing: u32, reading: u32) {
+    let outcome = check_writing(counts, trees, cabinet_length(counts));
+    assert_eq!(outcome, Err(writing));
+    let file = cabinet::unchecked(counts, trees);
+    assert_eq!(check_file(&file, counts.len()), BTreeSet::from([reading]));
+}
+
 /// Asserts that the trees are written, that each is read back, and that the file has no other entry.
 fn assert_read_back(counts: &[u32], trees: &[u8]) {
     let file = check_writing(counts, trees, cabinet_length(counts)).expect("balanced trees");
@@ -191,17 +205,8 @@ fn sixty_four_entries_are_taken_and_one_more_is_refused() {
     for n in [0, 3, 4] {
         let counts = [n; 65];
         let trees = random_trees(&mut random, &counts);
-        assert_eq!(
-            check_writing(&counts, &trees, cabinet_length(&counts)),
-            Err(10)
-        );
-        let file = cabinet::unchecked(&counts, &trees);
-        assert_eq!(check_file(&file, 65), BTreeSet::from([10]));
-
-        let counts = &counts[1..];
-        let trees = &trees[tree_length(n as usize)..];
-        let file = check_writing(counts, trees, cabinet_length(counts)).expect("64 entries");
-        assert_eq!(check_file(&file, 64), BTreeSet::from([0, 5]));
+        assert_refused(&counts, &trees, 10, 10);
+        assert_taken(&counts[1..], &trees[tree_length(n as usize)..]);
     }
 }
 
@@ -211,18 +216,9 @@ fn a_million_letters_are_taken_and_one_more_is_refused() {
     for entry in 0..3 {
         let mut counts = [3, 0, 7];
         counts[entry] = LIMIT;
-        let trees = random_trees(&mut random, &counts);
-        let file = check_writing(&counts, &trees, cabinet_length(&counts)).expect("1,000,000");
-        assert_eq!(check_file(&file, 3), BTreeSet::from([0, 5]));
-
+        assert_taken(&counts, &random_trees(&mut random, &counts));
         counts[entry] = LIMIT + 1;
-        let trees = random_trees(&mut random, &counts);
-        assert_eq!(
-            check_writing(&counts, &trees, cabinet_length(&counts)),
-            Err(1)
-        );
-        let file = cabinet::unchecked(&counts, &trees);
-        assert_eq!(check_file(&file, 3), BTreeSet::from([11]));
+        assert_refused(&counts, &random_trees(&mut random, &counts), 1, 11);
     }
 }
 

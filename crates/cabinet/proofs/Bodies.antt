@@ -64,8 +64,9 @@ module _ (bytes : List ℕ) (first : ℕ) (letters : ℕ → ℕ) where
     here : flawNumber (letters k) (part bytes end (treeLength (letters k))) ≡ flawNumber (letters k) (bodyIn bytes first letters k)
     here = ap (λ e. flawNumber (letters k) (part bytes e (treeLength (letters k)))) (S .ends)
 
-    pub sound-more : flawNumber (letters k) (part bytes end (treeLength (letters k))) ≡ 0 → SoundTo bytes first letters (k + 1) (end + treeLength (letters k))
-    sound-more e = record { ends = omega (arith, S .ends, bytes-more letters k); sound = and-here (λ j. flawNumber (letters j) (bodyIn bytes first letters j) ≡ 0) k (S .sound) (sym here ∙ e) }
+    pub sound-more : {next : ℕ} → next ≡ end + treeLength (letters k) → flawNumber (letters k) (part bytes end (treeLength (letters k))) ≡ 0
+        → SoundTo bytes first letters (k + 1) next
+    sound-more z e = record { ends = omega (arith, z, S .ends, bytes-more letters k); sound = and-here (λ j. flawNumber (letters j) (bodyIn bytes first letters j) ≡ 0) k (S .sound) (sym here ∙ e) }
 
     module _ (count : ℕ) where
       pub all-sound : k ≡ count → 0 ≡ bodiesFlaw bytes first letters count

@@ -54,7 +54,7 @@ module _ (counts trees : List ℕ) (T : Fitting counts trees) where
         short = λ k h. let w : k < length counts = omega (arith, counted) in omega (arith, lettered k w, T .allowed .short k w);
       }
 
-  pub written-accepted : treesFlaw counts trees ≡ 0 → Accepted file
+  written-accepted : treesFlaw counts trees ≡ 0 → Accepted file
   written-accepted e =
       record {
         marked = file-marked counts trees;
@@ -67,7 +67,7 @@ module _ (counts trees : List ℕ) (T : Fitting counts trees) where
             ∙ e;
       }
 
-  pub written-body : (k : ℕ) → k < length counts → bodyOf file k ≡ bodyIn trees 0 (countIn counts) k
+  written-body : (k : ℕ) → k < length counts → bodyOf file k ≡ bodyIn trees 0 (countIn counts) k
   written-body k h =
       ap₂ (λ p n. part file p (treeLength n)) (place-back counts trees (T .allowed .few) (T .allowed .short) k h) (lettered k h)
       ∙ body-moved file (contentsEnd (length counts)) (countIn counts) (countIn counts) k (λ j w. refl) refl
@@ -135,7 +135,7 @@ module _ (file : List ℕ) (small : AreBytes file) (A : Accepted file) where
   listed : (k : ℕ) → k < count → countIn (countsOf file) k ≡ lettersOf file k
   listed = tabulate-entry (lettersOf file) count
 
-  pub taken-again : (size : ℕ) → size ≡ length file → writeRefusal (countsOf file) (bodiesOf file) size ≡ 0
+  taken-again : (size : ℕ) → size ≡ length file → writeRefusal (countsOf file) (bodiesOf file) size ≡ 0
   taken-again size e =
       write-flaw (countsOf file) (bodiesOf file) size (record { few = omega (arith, c, A .few); short = λ k h. let w : k < count = omega (arith, c) in omega (arith, listed k w, R .short k w) })
       (omega (arith, length-drop (contentsEnd count) file, R .ends, bytes)) (omega (arith, c, R .ends, bytes))

@@ -14,7 +14,7 @@ pub four-length : (v : ℕ) → length (fourBytes v) ≡ 4
 unfolding bytesOf
 four-length v = refl
 
-pub value-back : (v : ℕ) → v < 4294967296 → valueOf (fourBytes v) ≡ v
+value-back : (v : ℕ) → v < 4294967296 → valueOf (fourBytes v) ≡ v
 unfolding bytesOf valueOf
 value-back v h = omega arith
 

@@ -44,7 +44,7 @@ headNumbers file =
     ∷ numberIf (wrongContents file) WrongContents
     ∷ []
 
--- ", 5 (entry not below the count), then 6 to 8 body by body"
+-- then "5 (entry not below the count), then 6 to 8 body by body"
 unfoldable pub readRefusal : List ℕ → ℕ → ℕ
 readRefusal file entry = firstOf (headNumbers file ++ numberIf (positionOutside (countOf file) entry) PositionOutside ∷ fileFlaw file ∷ [])
 

@@ -44,11 +44,11 @@ module _ (file : List ℕ) where
     pub end-most : end ≤ contentsEnd (countOf file) + 250000 * k
     end-most = omega (arith, S .ends, bytes-most (lettersOf file) k (S .short))
 
-    pub right-more : placeOf file k ≡ end → lettersOf file k ≤ 1000000 → RightTo file (k + 1) (end + treeLength (lettersOf file k))
-    right-more p n =
+    pub right-more : {next : ℕ} → next ≡ end + treeLength (lettersOf file k) → placeOf file k ≡ end → lettersOf file k ≤ 1000000 → RightTo file (k + 1) next
+    right-more z p n =
         record {
           whole = S .whole;
-          ends = omega (arith, S .ends, bytes-more (lettersOf file) k);
+          ends = omega (arith, z, S .ends, bytes-more (lettersOf file) k);
           places = and-here (λ i. placeOf file i ≡ endBefore file i) k (S .places) (p ∙ S .ends);
           short = and-here (λ i. lettersOf file i ≤ 1000000) k (S .short) n;
         }

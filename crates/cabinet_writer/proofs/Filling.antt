@@ -45,12 +45,12 @@ module _ (counts before : List ℕ) where
     pub place-most : Allowed counts → k ≤ length counts → place ≤ contentsEnd (length counts) + 250000 * k
     place-most A h = omega (arith, S .ends, bytes-most (countIn counts) k (λ j w. A .short j (omega arith)))
 
-    pub entries-more : {after : List ℕ} → k < length counts → length after ≡ length now
-        → Wrote now after (fourBytes place ++ fourBytes (countIn counts k)) (8 + 8 * k) (8 + 8 * k + 8) → EntriesTo counts before after (k + 1) (place + treeLength (countIn counts k))
-    entries-more h s p =
+    pub entries-more : {after : List ℕ} {next : ℕ} → k < length counts → length after ≡ length now → next ≡ place + treeLength (countIn counts k)
+        → Wrote now after (fourBytes place ++ fourBytes (countIn counts k)) (8 + 8 * k) (8 + 8 * k + 8) → EntriesTo counts before after (k + 1) next
+    entries-more h s n p =
         let z : 8 + 8 * (k + 1) ≡ 8 + 8 * k + 8 = omega arith in
         record {
-          ends = omega (arith, S .ends, bytes-more (countIn counts) k);
+          ends = omega (arith, n, S .ends, bytes-more (countIn counts) k);
           wrote = rw (z, contents-more (contentsEnd (length counts)) counts k h, sym (S .ends)) (wrote-then (S .wrote) p);
           same = s ∙ S .same;
         }

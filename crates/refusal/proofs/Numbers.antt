@@ -45,11 +45,11 @@ neither false b e = (refl, e)
 
 -- the first number of several: where it is not 0, where it is, and where all are
 module _ (number : ℕ) (numbers : List ℕ) where
-  pub first-here : number ≢ 0 → firstOf (number ∷ numbers) ≡ number
+  first-here : number ≢ 0 → firstOf (number ∷ numbers) ≡ number
   unfolding firstOf
   first-here e = rw (ne-eqb number 0 e, firstOf)
 
-  pub first-later : number ≡ 0 → firstOf (number ∷ numbers) ≡ firstOf numbers
+  first-later : number ≡ 0 → firstOf (number ∷ numbers) ≡ firstOf numbers
   unfolding firstOf
   first-later e = rw (eq-eqb number 0 e, firstOf)
 

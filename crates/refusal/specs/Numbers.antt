@@ -45,11 +45,11 @@ unfoldable pub firstOf : List ℕ → ℕ
 firstOf [] = 0
 firstOf (number ∷ numbers) = elim (eqb number 0) [ true ↦ firstOf numbers | false ↦ number ]
 
--- one thing where nothing is refused, another where something is
-unfoldable pub unlessRefused : {A : Type 0} → ℕ → A → A → A
-unlessRefused number a other = elim (eqb number 0) [ true ↦ a | false ↦ other ]
-
 -- the number of a test: the refusal's where its condition applies
 abbrev pub numberIf : Bool → Refusal → ℕ
 numberIf true refusal = numberOf refusal
 numberIf false refusal = 0
+
+-- one thing where nothing is refused, another where something is
+unfoldable pub unlessRefused : {A : Type 0} → ℕ → A → A → A
+unlessRefused number a other = elim (eqb number 0) [ true ↦ a | false ↦ other ]

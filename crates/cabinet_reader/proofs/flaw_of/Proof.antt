@@ -21,23 +21,11 @@ Inv-loop file count start₀ k₀ start k = (k ≤ count) × SoundTo file (conte
 abbrev μ-loop : tie.MeasureT-loop
 μ-loop file count start₀ k₀ start k = count - k
 
-mul-start : tie.Need-mul-start Inv-loop μ-loop
-mul-start c = omega arith
-
-add-start : tie.Need-add-start Inv-loop μ-loop
-add-start c = omega arith
-
 loop-holds : tie.Need-loop-holds Inv-loop μ-loop
 loop-holds c =
     let s = c .before in
     let file = s .args .file .now in
     (omega arith, rw (ap contentsEnd (s .pre .0)) (sound-none file (contentsEnd (countOf file)) (lettersOf file)))
-
-mul-number-at : tie.Need-mul-number-at Inv-loop μ-loop
-mul-number-at c = omega arith
-
-add-number-at : tie.Need-add-number-at Inv-loop μ-loop
-add-number-at c = omega arith
 
 -- the contents are right
 contents : (s : tie.Start Inv-loop μ-loop) → Right (s .args .file .now)
@@ -98,8 +86,7 @@ loop-again c =
     let v = c .before .before in
     let t = v .before .before in (
       omega arith,
-      rw (t .tree-length .ensures, n-is t)
-          (sound-more (file t) (contentsEnd (countOf (file t))) (lettersOf (file t)) (l t .loop .inv .1) (sym (found v) ∙ accepted-of (v .verdict-on .result) (c .before .match .keys2))),
+      sound-more (file t) (contentsEnd (countOf (file t))) (lettersOf (file t)) (l t .loop .inv .1) (omega (arith, t .tree-length .ensures, n-is t)) (sym (found v) ∙ accepted-of (v .verdict-on .result) (c .before .match .keys2)),
     )
 
 returns-2 : tie.Need-returns-2 Inv-loop μ-loop
@@ -115,11 +102,11 @@ flaw-of-spec =
     (tie.spec
     Inv-loop
     μ-loop
-    mul-start
-    add-start
+    (λ c. omega arith)
+    (λ c. omega arith)
     loop-holds
-    mul-number-at
-    add-number-at
+    (λ c. omega arith)
+    (λ c. omega arith)
     number-at-requires
     (λ c κs. tt)
     add-end

@@ -80,12 +80,6 @@ ends c =
 add-end : tie.Need-add-end
 add-end c = omega (arith, ends c)
 
-sub-result : tie.Need-sub-result
-sub-result c = omega arith
-
-part-result-start : tie.Need-part-result-start
-part-result-start c = omega arith
-
 part-result-end : tie.Need-part-result-end
 part-result-end c = omega (arith, ends c)
 
@@ -124,7 +118,7 @@ read-spec =
     (λ c. search needs)
     (λ c κs. tt)
     add-end
-    sub-result
-    part-result-start
+    (λ c. omega arith)
+    (λ c. omega arith)
     part-result-end
     returns-2)

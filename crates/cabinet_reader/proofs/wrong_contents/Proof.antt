@@ -13,44 +13,17 @@ Inv-loop file count end₀ k₀ end k = (k ≤ count) × RightTo file k end
 abbrev μ-loop : tie.MeasureT-loop
 μ-loop file count end₀ k₀ end k = count - k
 
-mul-end : tie.Need-mul-end Inv-loop μ-loop
-mul-end c = omega arith
-
-add-end : tie.Need-add-end Inv-loop μ-loop
-add-end c = omega arith
-
 returns : tie.Need-returns Inv-loop μ-loop
 returns c = let s = c .before .before in sym (too-short (s .args .file .now) (omega arith))
 
 loop-holds : tie.Need-loop-holds Inv-loop μ-loop
 loop-holds c = let s = c .before .before in (omega arith, rw (ap contentsEnd (s .pre .0)) (right-none (s .args .file .now) (omega arith)))
 
-mul-number-at : tie.Need-mul-number-at Inv-loop μ-loop
-mul-number-at c = omega arith
-
-add-number-at : tie.Need-add-number-at Inv-loop μ-loop
-add-number-at c = omega arith
-
-number-at-requires : tie.Need-number-at-requires Inv-loop μ-loop
-number-at-requires c κs = omega arith
-
-cast-if2 : tie.Need-cast-if2 Inv-loop μ-loop
-cast-if2 c = omega arith
-
 returns-2 : tie.Need-returns-2 Inv-loop μ-loop
 returns-2 c =
     let l = c .before .before .before in
     let s = l .before .before .before in
     sym (wrong-place (s .args .file .now) (l .loop .inv .1) (omega arith) (λ e. omega (arith, c .if2 .taken, c .before .number-at .ensures, e)))
-
-mul-number-at-2 : tie.Need-mul-number-at-2 Inv-loop μ-loop
-mul-number-at-2 c = omega arith
-
-add-number-at-2 : tie.Need-add-number-at-2 Inv-loop μ-loop
-add-number-at-2 c = omega arith
-
-number-at-requires-2 : tie.Need-number-at-requires-2 Inv-loop μ-loop
-number-at-requires-2 c κs = omega arith
 
 returns-3 : tie.Need-returns-3 Inv-loop μ-loop
 returns-3 c =
@@ -65,12 +38,6 @@ add-end-2 c =
     let s = l .before .before .before in
     omega (arith, c .tree-length .ensures, n, end-most (s .args .file .now) (l .loop .inv .1))
 
-add-k : tie.Need-add-k Inv-loop μ-loop
-add-k c = omega arith
-
-loop-less : tie.Need-loop-less Inv-loop μ-loop
-loop-less c = omega arith
-
 loop-again : tie.Need-loop-again Inv-loop μ-loop
 loop-again c =
     let d = c .before .before in
@@ -78,7 +45,7 @@ loop-again c =
     let p = d .before .before .number-at .ensures in
     let l = d .before .before .before .before in
     let s = l .before .before .before in
-    (omega arith, rw (c .tree-length .ensures, n) (right-more (s .args .file .now) (l .loop .inv .1) (omega (arith, p, d .before .if2 .left)) (omega (arith, n))))
+    (omega arith, right-more (s .args .file .now) (l .loop .inv .1) (omega (arith, c .tree-length .ensures, n)) (omega (arith, p, d .before .if2 .left)) (omega (arith, n)))
 
 returns-4 : tie.Need-returns-4 Inv-loop μ-loop
 returns-4 c =
@@ -92,22 +59,22 @@ wrong-contents-spec =
     (tie.spec
     Inv-loop
     μ-loop
-    mul-end
-    add-end
+    (λ c. omega arith)
+    (λ c. omega arith)
     returns
     loop-holds
-    mul-number-at
-    add-number-at
-    number-at-requires
-    cast-if2
+    (λ c. omega arith)
+    (λ c. omega arith)
+    (λ c κs. omega arith)
+    (λ c. omega arith)
     returns-2
-    mul-number-at-2
-    add-number-at-2
-    number-at-requires-2
+    (λ c. omega arith)
+    (λ c. omega arith)
+    (λ c κs. omega arith)
     returns-3
     (λ c κs. tt)
     add-end-2
-    add-k
-    loop-less
+    (λ c. omega arith)
+    (λ c. omega arith)
     loop-again
     returns-4)

@@ -9,24 +9,6 @@ use Rattle.cabinet_writer.proofs.Filling.{mark-put, filled}
 use Rattle.cabinet_writer.proofs.fill.Statement.{statement}
 use Rattle.cabinet_writer.proofs.fill.Tie as tie
 
-slice-aggregate-copy : tie.Need-slice-aggregate-copy
-slice-aggregate-copy c = search needs
-
-copy-requires : tie.Need-copy-requires
-copy-requires c κs = search needs
-
-cast-put-number : tie.Need-cast-put-number
-cast-put-number c = search needs
-
-put-number-requires : tie.Need-put-number-requires
-put-number-requires c κs = search needs
-
-put-contents-requires : tie.Need-put-contents-requires
-put-contents-requires c κs = search needs
-
-copy-requires-2 : tie.Need-copy-requires-2
-copy-requires-2 c κs = search needs
-
 returns : tie.Need-returns
 unfolding cabinet
 returns c =
@@ -46,16 +28,16 @@ pub fill-spec : {M : Type 1} → statement M
 fill-spec =
     tie.close
     (tie.spec
-    slice-aggregate-copy
-    copy-requires
-    cast-put-number
-    put-number-requires
-    put-contents-requires
+    (λ c. search needs)
+    (λ c κs. search needs)
+    (λ c. search needs)
+    (λ c κs. search needs)
+    (λ c κs. search needs)
     (λ c. search needs)
     (λ c. search needs)
     (λ c. search needs)
     (λ c. search needs)
     (λ c. search needs)
-    copy-requires-2
+    (λ c κs. search needs)
     (λ c. search needs)
     returns)

@@ -82,7 +82,7 @@ loop-again c =
     let v = c .before .before in
     let t = v .before .before in (
       omega arith,
-      rw (t .tree-length .ensures) (sound-more (trees t) 0 (letters t) (l t .loop .inv .1) (sym (found v) ∙ accepted-of (v .verdict-on .result) (c .before .match .keys2))),
+      sound-more (trees t) 0 (letters t) (l t .loop .inv .1) (omega (arith, t .tree-length .ensures)) (sym (found v) ∙ accepted-of (v .verdict-on .result) (c .before .match .keys2)),
     )
 
 returns-2 : tie.Need-returns-2 Inv-loop μ-loop

@@ -12,12 +12,6 @@ Inv-loop counts file₀ place₀ k₀ file place k = (k ≤ length counts) × En
 abbrev μ-loop : tie.MeasureT-loop
 μ-loop counts file₀ place₀ k₀ file place k = length counts - k
 
-mul-place : tie.Need-mul-place Inv-loop μ-loop
-mul-place c = omega arith
-
-add-place : tie.Need-add-place Inv-loop μ-loop
-add-place c = omega arith
-
 loop-holds : tie.Need-loop-holds Inv-loop μ-loop
 loop-holds c = let s = c .before .before in (omega arith, entries-none (s .args .counts .now) (s .args .file .now))
 
@@ -39,7 +33,7 @@ loop-again c =
     let p = c .before .before .before in
     let l = p .before .before .before .before in
     let s = l .before .before .before in
-    (omega arith, rw (c .tree-length .ensures) (entries-more (s .args .counts .now) (s .args .file .now) (l .loop .inv .1) (omega arith) (c .before .before .file .given) (p .put-entry .ensures)))
+    (omega arith, entries-more (s .args .counts .now) (s .args .file .now) (l .loop .inv .1) (omega arith) (c .before .before .file .given) (omega (arith, c .tree-length .ensures)) (p .put-entry .ensures))
 
 returns : tie.Need-returns Inv-loop μ-loop
 returns c =
@@ -53,8 +47,8 @@ put-contents-spec =
     (tie.spec
     Inv-loop
     μ-loop
-    mul-place
-    add-place
+    (λ c. omega arith)
+    (λ c. omega arith)
     loop-holds
     (λ c. omega arith)
     (λ c. omega arith)

@@ -38,12 +38,6 @@ sized : (c : tie.Else3) → let s = c .before .before .before .before .before .b
     length (s .args .trees .now) ≡ bodyBytes (countIn (s .args .counts .now)) (length (s .args .counts .now))
 sized c = omega (arith, c .if3 .left, c .before .body-bytes .ensures)
 
-mul-if4 : tie.Need-mul-if4
-mul-if4 c = omega arith
-
-add-if4 : tie.Need-add-if4
-add-if4 c = omega arith
-
 add-if4-2 : tie.Need-add-if4-2
 add-if4-2 c =
     let d = c .before .before in
@@ -82,8 +76,8 @@ verdict-on-spec =
     returns-2
     body-bytes-requires
     returns-3
-    mul-if4
-    add-if4
+    (λ c. omega arith)
+    (λ c. omega arith)
     add-if4-2
     returns-4
     flaw-of-requires
