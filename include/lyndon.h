@@ -54,12 +54,14 @@ extern "C" {
 
 /* The answer of lyndon_build. Where it is refused, every member but `refusal` is 0. */
 typedef struct BuildReply {
-    uint32_t refusal;   /* 0, or 1 to 4 */
-    uint32_t finished;  /* 1 where rows = n, 0 where the build is halted before */
-    size_t rows;        /* the rows done: always the rows asked */
-    size_t comparisons; /* the comparisons of two letters that the reuse steps make in these rows */
-    size_t reach;       /* the greatest of 1 and r + match(l, r) over the pairs l < r < rows with next[l] = r or previous[r] = l;
-                           0 where rows = 0 */
+    uint32_t refusal;  /* 0, or 1 to 4 */
+    uint32_t finished; /* 1 where rows = n, 0 where the build is halted before */
+    size_t rows;       /* the rows done: always the rows asked */
+    size_t equal;      /* the comparisons that the reuse steps make in these rows and that find two letters equal: 0 where
+                          rows = 0, else at most reach - 1 */
+    size_t unequal;    /* those that find them unequal: 0 where rows = 0, else at most 2 * (rows - 1) */
+    size_t reach;      /* the greatest of 1 and r + match(l, r) over the pairs l < r < rows with next[l] = r or previous[r] = l;
+                          0 where rows = 0; never above n */
 } BuildReply;
 
 /* The answer to a question put to a tree. */

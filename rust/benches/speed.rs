@@ -128,7 +128,8 @@ impl Buffers {
         Figures {
             finished: built.finished,
             rows: built.rows,
-            comparisons: built.comparisons,
+            equal: built.equal,
+            unequal: built.unequal,
             reach: built.reach,
         }
     }
@@ -160,22 +161,22 @@ fn compare_builds() {
     }
 }
 
-/// The library's median nanoseconds a letter and comparisons a letter for each kind of string.
+/// The library's median nanoseconds a letter, and equal and unequal comparisons a letter, for each kind
+/// of string.
 fn costs(n: usize) -> Vec<(&'static str, String)> {
     let mut buffers = Buffers::new(n);
     let mut cost = |letters: &[u8]| {
-        let mut comparisons = 0;
+        let mut counts = [0; 2];
         let times = (0..BUILD_ROUNDS).map(|_| {
             let start = Instant::now();
-            comparisons = buffers.build_by_library(black_box(letters)).comparisons;
-            start.elapsed().as_secs_f64() * 1e9 / n as f64
+            let built = buffers.build_by_library(black_box(letters));
+            let time = start.elapsed().as_secs_f64() * 1e9 / n as f64;
+            counts = [built.equal, built.unequal];
+            time
         });
         let times = Times(times.collect());
-        format!(
-            "{:.1} | {:.2}",
-            times.median(),
-            comparisons as f64 / n as f64
-        )
+        let [equal, unequal] = counts.map(|count| count as f64 / n as f64);
+        format!("{:.1} | {equal:.2} | {unequal:.2}", times.median())
     };
     let kinds = samples::kinds(&mut Random::new(42), n).into_iter();
     kinds
@@ -184,9 +185,9 @@ fn costs(n: usize) -> Vec<(&'static str, String)> {
 }
 
 fn measure_growth() {
-    println!("\nHow the library's build grows: median nanoseconds a letter, comparisons a letter.");
+    println!("\nHow the library's build grows: median nanoseconds, equal and unequal comparisons a letter.");
     let lengths = [10_000, 100_000, LETTERS];
-    let heads = lengths.map(|n| format!("{n} letters: ns | comparisons"));
+    let heads = lengths.map(|n| format!("{n} letters: ns | equal | unequal"));
     print_head(&format!("letters | {}", heads.join(" | ")));
     let columns = lengths.map(costs);
     for (k, (kind, _)) in columns[0].iter().enumerate() {

@@ -17,7 +17,7 @@
 //! assert_eq!(banana.next, [1, 3, 3, 5, 5, 6]);
 //! assert_eq!(banana.next_match, [0, 3, 0, 1, 0, 0]);
 //! assert_eq!(banana.tree, [0xcd, 0x04]);
-//! assert_eq!((banana.built.comparisons, banana.built.reach), (6, 6));
+//! assert_eq!((banana.built.equal, banana.built.unequal, banana.built.reach), (3, 3, 6));
 //!
 //! // The tree alone gives the tables back, and answers for one position.
 //! let (mut previous, mut next) = (vec![0; 6], vec![0; 6]);
@@ -143,11 +143,21 @@ pub struct Built {
     pub finished: bool,
     /// The rows done: always the rows asked.
     pub rows: usize,
-    /// How often the reuse steps compare two letters in these rows.
-    pub comparisons: usize,
+    /// How often the reuse steps compare two letters in these rows and find them equal: at most
+    /// `reach` - 1, where rows are asked.
+    pub equal: usize,
+    /// How often they find them unequal: at most 2 (`rows` - 1), where rows are asked.
+    pub unequal: usize,
     /// The greatest of 1 and r + match(l, r) over the pairs l < r < rows with next\[l\] = r or
     /// previous\[r\] = l; 0 where no rows are asked.
     pub reach: usize,
+}
+
+impl Built {
+    /// How often the reuse steps compare two letters in these rows.
+    pub fn comparisons(&self) -> usize {
+        self.equal + self.unequal
+    }
 }
 
 /// The length in bytes of the tree of `n` positions: ceil(n/4).
@@ -191,7 +201,8 @@ pub fn build(
     Ok(Built {
         finished: reply.finished != 0,
         rows: reply.rows,
-        comparisons: reply.comparisons,
+        equal: reply.equal,
+        unequal: reply.unequal,
         reach: reply.reach,
     })
 }

@@ -11,8 +11,10 @@ pub struct BuildReply {
     pub finished: u32,
     /// The rows done.
     pub rows: usize,
-    /// The comparisons that the reuse steps make.
-    pub comparisons: usize,
+    /// The comparisons of the reuse steps that find two letters equal.
+    pub equal: usize,
+    /// Those that find them unequal.
+    pub unequal: usize,
     /// The reach after these rows.
     pub reach: usize,
 }

@@ -52,7 +52,7 @@ int main(void)
     size_t i;
     BuildReply built = lyndon_build(letters, N, N, previous, N, next, N, previous_match, N, next_match, N,
                                     tree, TREE_LENGTH);
-    if (built.refusal != 0 || built.finished != 1 || built.rows != N || built.reach != 6) {
+    if (built.refusal != 0 || built.finished != 1 || built.rows != N || built.equal != 3 || built.unequal != 3 || built.reach != 6) {
         return failed("lyndon_build");
     }
     if (lyndon_read(N, tree, TREE_LENGTH, previous_read, N, next_read, N) != 0) {
@@ -65,7 +65,7 @@ int main(void)
         return failed("the cabinet and the tree differ");
     }
 
-    printf("length %d comparisons %lu tree ", N, (unsigned long)built.comparisons);
+    printf("length %d comparisons %lu tree ", N, (unsigned long)(built.equal + built.unequal));
     for (i = 0; i < TREE_LENGTH; i++) {
         printf("%02x", tree[i]);
     }

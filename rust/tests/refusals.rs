@@ -61,7 +61,8 @@ fn check_build(pairs: &mut Pairs, letters: &[u8], tables: [usize; 4], tree: usiz
             refusal: number,
             finished: 0,
             rows: 0,
-            comparisons: 0,
+            equal: 0,
+            unequal: 0,
             reach: 0,
         };
         assert_eq!(lent.build_raw(letters, rows), zeros);
@@ -315,7 +316,8 @@ fn structures_in_memory_of_their_own() {
         Built {
             finished: true,
             rows: 0,
-            comparisons: 0,
+            equal: 0,
+            unequal: 0,
             reach: 0
         }
     );

@@ -12,7 +12,7 @@ use Rattle.refusal.specs.declared.Refusal.{Refusal}
 use Rattle.refusal.specs.Numbers.{numberOf, lowest}
 use Rattle.refusal.specs.Conditions.{buildRefusal}
 use Rattle.refusal.proofs.Numbers.{positive, none-applies, neither}
-use Rattle.reuse.specs.Steps.{BuildState, afterRows}
+use Rattle.reuse.specs.Steps.{BuildState, afterRows, equalComparisons, unequalComparisons}
 use Rattle.reuse.specs.Claims.{Exact}
 use Rattle.reuse.proofs.Exact.{exact}
 use Rattle.build.specs.declared.State.{State}
@@ -20,7 +20,7 @@ use Rattle.build.specs.declared.Report.{Report}
 use Rattle.build.specs.declared.Built.{Built}
 use Rattle.build.specs.declared.Built.the-variants.{Finished, Halted, Refused}
 use Rattle.build.specs.States.{buildState}
-use Rattle.build.specs.Built.{Lent, lentAfter, comparisons, figuresOf, refusalOf, answer, lentAtExit, BuiltExactly}
+use Rattle.build.specs.Built.{Lent, lentAfter, figuresOf, refusalOf, answer, lentAtExit, BuiltExactly}
 
 module _ (letters : List ℕ) (R : ℕ) (before : Lent) where
   abbrev n : ℕ
@@ -36,6 +36,8 @@ module _ (letters : List ℕ) (R : ℕ) (before : Lent) where
         bounded =
             record {
               within = λ z. absurd (omega (arith, positive k));
+              equal = λ z. absurd (omega (arith, positive k));
+              unequal = λ z. absurd (omega (arith, positive k));
               bound = λ z. absurd (omega (arith, positive k));
               whole = λ z. absurd (omega (arith, positive k));
             };
@@ -77,30 +79,33 @@ module _ (letters : List ℕ) (R : ℕ) (before : Lent) where
       E = exact letters R (accepted .rows)
 
       abbrev report : Report
-      report = record { rows = s .rows; comparisons = s .comparisons; reach = s .reach }
+      report = record { rows = s .rows; equal = s .equal; unequal = s .unequal; reach = s .reach }
 
       tables : after .tables ≡ tablesAfter letters R
       tables = ap (λ (b : BuildState). b .tables) i ∙ E .tables
 
-      counted : s .comparisons ≡ afterRows letters R .progress .comparisons
-      counted = ap (λ (b : BuildState). b .progress .comparisons) i
+      equals : s .equal ≡ equalComparisons letters R
+      equals = ap (λ (b : BuildState). b .progress .equal) i
+
+      unequals : s .unequal ≡ unequalComparisons letters R
+      unequals = ap (λ (b : BuildState). b .progress .unequal) i
 
       reached : s .reach ≡ reach letters R
       reached = ap (λ (b : BuildState). b .progress .reach) i ∙ E .reached
 
       exactly : (r : Built) → figuresOf r ≡ answer letters R before → BuiltExactly letters R before after r
-      unfolding lentAtExit lentAfter comparisons
+      unfolding lentAtExit lentAfter
       exactly r a =
           record {
             answers = a;
             leaves = rw (eq-eqb (refusalOf letters R before) 0 taken, lentAtExit, ← q, ← tables);
-            bounded = record { within = λ z. E .within; bound = λ z. E .bound; whole = λ z w h. omega (arith, E .bound h, E .within) };
+            bounded = record { within = λ z. E .within; equal = λ z. E .equal; unequal = λ z. E .unequal; bound = λ z. E .bound; whole = λ z w h. E .whole h w };
           }
 
       pub finished : R ≡ n → BuiltExactly letters R before after (Finished report)
-      unfolding answer comparisons
-      finished h = exactly (Finished report) (rw (eq-eqb (refusalOf letters R before) 0 taken, eq-eqb R n h, answer, k, counted, reached))
+      unfolding answer
+      finished h = exactly (Finished report) (rw (eq-eqb (refusalOf letters R before) 0 taken, eq-eqb R n h, answer, k, equals, unequals, reached))
 
       pub halted : R ≢ n → BuiltExactly letters R before after (Halted report)
-      unfolding answer comparisons
-      halted h = exactly (Halted report) (rw (eq-eqb (refusalOf letters R before) 0 taken, ne-eqb R n h, answer, k, counted, reached))
+      unfolding answer
+      halted h = exactly (Halted report) (rw (eq-eqb (refusalOf letters R before) 0 taken, ne-eqb R n h, answer, k, equals, unequals, reached))

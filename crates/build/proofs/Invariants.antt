@@ -20,6 +20,7 @@ use Rattle.suffix.proofs.Rows.{previousAfter-in}
 use Rattle.suffix.proofs.Levels.{level, level-is, level-suc}
 use Rattle.suffix.proofs.Bytes as bytes
 use Rattle.reuse.specs.Steps.{asked, settled, recordPrevious, recordNext, start, afterRows}
+use Rattle.reuse.proofs.Cost.{entries-most}
 use Rattle.reuse.proofs.Settle.{last-fits, settle-recorded, settle-shifted}
 use Rattle.reuse.proofs.Row.{Sizes, next-sizes, previous-sizes, AtSettled, Done, Holds, at-asked, at-settled, reads-previous}
 use Rattle.reuse.proofs.Exact.{rows-done}
@@ -94,12 +95,12 @@ module _ (y : List ℕ) (t : Tables) (S : Sizes y t) where
   cleared : clearedTables (length y) 0 t ≡ tablesOf (replicate (length y) (length y)) (replicate (length y) (length y)) (replicate (length y) 0) (replicate (length y) 0)
   cleared = all-cleared (length y) t (S .previous) (S .next) (S .previousMatch) (S .nextMatch)
 
-  pub no-rows : buildState (record { reach = 0; shift = 0; rows = 0; comparisons = 0 }) (clearedTables (length y) 0 t) ≡ afterRows y 0
+  pub no-rows : buildState (record { reach = 0; shift = 0; rows = 0; equal = 0; unequal = 0 }) (clearedTables (length y) 0 t) ≡ afterRows y 0
   unfolding afterRows start
   no-rows = rw cleared
 
   pub first-row : (rows : ℕ) (tree : List ℕ) → 0 < rows → rows ≤ length y → tree ≡ replicate (treeLength (length y)) 0
-      → AtRows y rows (record { reach = 1; shift = 0; rows = 1; comparisons = 0 }) t (length y) 0 tree 0
+      → AtRows y rows (record { reach = 1; shift = 0; rows = 1; equal = 0; unequal = 0 }) t (length y) 0 tree 0
   unfolding afterRows start unclosed countBelow
   first-row rows tree h n q =
       at-rows y rows 0 _ t (length y) 0 tree 0 h n refl (rw (previous-none (length y) t, cleared)) (omega arith) (omega arith) S (q ∙ bytes.no-bytes y)
@@ -152,7 +153,7 @@ at-walk y rows r s t tree bit l m known h n k G q b = go known (G .holds)
 pub begins : {y : List ℕ} {rows : ℕ} {s : State} {t : Tables} {p v : ℕ} {tree : List ℕ} {bit : ℕ} → AtRows y rows s t p v tree bit → s .rows < rows
     → {t′ : Tables} → t′ ≡ recordNext (recordPrevious t (s .rows - 1) p v) (s .rows - 1) (length y) 0
     → {tree′ : List ℕ} → tree′ ≡ set tree (bit / 8) (getD tree (bit / 8) 0 + 2 ^ (bit % 8))
-    → AtWalk y rows (s .rows) (record { reach = s .reach; shift = s .shift; rows = s .rows + 1; comparisons = s .comparisons }) t′ tree′ (bit + 1) (s .rows - 1) 0 false
+    → AtWalk y rows (s .rows) (record { reach = s .reach; shift = s .shift; rows = s .rows + 1; equal = s .equal; unequal = s .unequal }) t′ tree′ (bit + 1) (s .rows - 1) 0 false
 begins {y} {rows} {s} {t} {p} {v} {tree} {bit} A h {t′} w {tree′} q =
     at-walk y rows (s .rows) _ t′ tree′ (bit + 1) (s .rows - 1) 0 false h (A .fits) refl
     (starts y (s .rows) (omega (arith, A .fits)) (buildState s (clearedTables (length y) (s .rows) t′)) (A .pos) (rows-are-done A w (s .rows) refl)) (q ∙ bit-set A)
@@ -181,7 +182,8 @@ module _ {y : List ℕ} {rows r : ℕ} {s : State} {t : Tables} {tree : List ℕ
             top = top;
             shift = λ h. settle-recorded small (A .asked) h .0;
             shifted = λ h. settle-shifted small (A .asked) h;
-            few = omega (arith, A .cost);
+            equal = omega (arith, A .cost .equal);
+            unequal = omega (arith, A .cost .unequal, entries-most (length y) (seen .previous), entries-most (length y) (seen .next), A .sizes .previous, A .sizes .next);
           }
 
   module _ (u : declared.SettledPair)

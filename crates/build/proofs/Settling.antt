@@ -19,7 +19,7 @@ use Rattle.build.proofs.Clearing.{cleared-get}
 -- ---- a scan that stands at m: what is left of it is the whole
 
 module _ (y : List ℕ) (s : Progress) (l r m : ℕ) {whole : SettledPair} (is : whole ≡ scanFrom y s l r m) where
-  pub at-end : {u : SettledPair} → length y ≤ r + m → u ≡ stopped l r m (s .comparisons) false → u ≡ whole
+  pub at-end : {u : SettledPair} → length y ≤ r + m → u ≡ stopped l r m (s .equal) (s .unequal) false → u ≡ whole
   unfolding scanFrom scan
   at-end h q = let z : length y - (r + m) ≡ 0 = omega arith in q ∙ sym (is ∙ rw z)
 
@@ -27,14 +27,15 @@ module _ (y : List ℕ) (s : Progress) (l r m : ℕ) {whole : SettledPair} (is :
     left : length y - (r + m) ≡ suc (length y - (r + (m + 1)))
     left = omega arith
 
-    pub at-equal : getD y (l + m) 0 ≡ getD y (r + m) 0 → whole ≡ scanFrom y (record { reach = s .reach; shift = s .shift; comparisons = s .comparisons + 1 }) l r (m + 1)
+    pub at-equal : getD y (l + m) 0 ≡ getD y (r + m) 0
+        → whole ≡ scanFrom y (record { reach = s .reach; shift = s .shift; equal = s .equal + 1; unequal = s .unequal }) l r (m + 1)
     unfolding scanFrom
-    at-equal e = is ∙ rw left (scan-equal y l r m (length y - (r + (m + 1))) (s .comparisons) e ∙ rw (add-one m, add-one (s .comparisons)))
+    at-equal e = is ∙ rw left (scan-equal y l r m (length y - (r + (m + 1))) (s .equal) (s .unequal) e ∙ rw (add-one m, add-one (s .equal)))
 
     pub at-unequal : {u : SettledPair} → getD y (l + m) 0 ≢ getD y (r + m) 0
-        → u ≡ stopped l r m (s .comparisons + 1) (ltb (getD y (l + m) 0) (getD y (r + m) 0)) → u ≡ whole
+        → u ≡ stopped l r m (s .equal) (s .unequal + 1) (ltb (getD y (l + m) 0) (getD y (r + m) 0)) → u ≡ whole
     unfolding scanFrom
-    at-unequal e q = q ∙ sym (is ∙ rw (left, add-one (s .comparisons)) (scan-unequal y l r m (length y - (r + (m + 1))) (s .comparisons) e))
+    at-unequal e q = q ∙ sym (is ∙ rw (left, add-one (s .unequal)) (scan-unequal y l r m (length y - (r + (m + 1))) (s .equal) (s .unequal) e))
 
 -- ---- a pair of which nothing is known: x is next[l - d], and v the match that is recorded
 

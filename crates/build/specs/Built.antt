@@ -10,7 +10,7 @@ use Rattle.suffix.specs.Rows.{Tables, tablesAfter, reach}
 use Rattle.suffix.specs.Tree.{treeBytes}
 use Rattle.refusal.specs.Numbers.{numberOf}
 use Rattle.refusal.specs.Conditions.{buildRefusal}
-use Rattle.reuse.specs.Steps.{afterRows}
+use Rattle.reuse.specs.Steps.{equalComparisons, unequalComparisons, comparisons}
 use Rattle.build.specs.declared.Built.{Built}
 use Rattle.build.specs.declared.Built.the-variants.{Finished, Halted, Refused}
 
@@ -27,20 +27,16 @@ lent previous next previousMatch nextMatch tree =
 unfoldable pub lentAfter : List ℕ → ℕ → Lent
 lentAfter y R = record { tables = tablesAfter y R; tree = treeBytes y R }
 
--- "Comparisons are those that the reuse steps below count in rows 0 to R − 1."
-unfoldable pub comparisons : List ℕ → ℕ → ℕ
-comparisons y R = afterRows y R .progress .comparisons
-
--- "The answer is 'finished' when R = n, else 'halted', with rows done, comparisons and reach." .. "A refusal carries its number and
--- no other figure"
+-- "The answer is 'finished' when R = n, else 'halted', with rows done, comparisons and reach." T-02: "The build's record shall carry
+-- equal and unequal comparisons as two numbers instead of their sum". "A refusal carries its number and no other figure"
 pub data Figures : Type 0 where
-  finished : (rows comparisons reach : ℕ) → Figures
-  halted : (rows comparisons reach : ℕ) → Figures
+  finished : (rows equal unequal reach : ℕ) → Figures
+  halted : (rows equal unequal reach : ℕ) → Figures
   refused : (number : ℕ) → Figures
 
 abbrev pub figuresOf : Built → Figures
-figuresOf (Finished r) = finished (r .rows) (r .comparisons) (r .reach)
-figuresOf (Halted r) = halted (r .rows) (r .comparisons) (r .reach)
+figuresOf (Finished r) = finished (r .rows) (r .equal) (r .unequal) (r .reach)
+figuresOf (Halted r) = halted (r .rows) (r .equal) (r .unequal) (r .reach)
 figuresOf (Refused k) = refused (numberOf k)
 
 -- the refusal of a build of R rows of these letters over this memory, or 0
@@ -54,7 +50,11 @@ unfoldable pub answer : List ℕ → ℕ → Lent → Figures
 answer letters R lent =
     let y = ranks letters in
     elim (eqb (refusalOf letters R lent) 0) [
-      | true ↦ elim (eqb R (length letters)) [ true ↦ finished R (comparisons y R) (reach y R) | false ↦ halted R (comparisons y R) (reach y R) ]
+      | true ↦
+          elim (eqb R (length letters)) [
+            | true ↦ finished R (equalComparisons y R) (unequalComparisons y R) (reach y R)
+            | false ↦ halted R (equalComparisons y R) (unequalComparisons y R) (reach y R)
+          ]
       | false ↦ refused (refusalOf letters R lent)
     ]
 
@@ -66,6 +66,9 @@ lentAtExit letters R lent = elim (eqb (refusalOf letters R lent) 0) [ true ↦ l
 pub record Bounded (letters : List ℕ) (R : ℕ) (before : Lent) : Type 0 where
   -- "Reach never passes n"
   pub within : refusalOf letters R before ≡ 0 → reach (ranks letters) R ≤ length letters
+  -- T-02: "with R ≥ 1 rows done, equal ones are at most reach less one, unequal ones at most twice (R less one)."
+  pub equal : refusalOf letters R before ≡ 0 → 0 < R → equalComparisons (ranks letters) R ≤ reach (ranks letters) R - 1
+  pub unequal : refusalOf letters R before ≡ 0 → 0 < R → unequalComparisons (ranks letters) R ≤ 2 * (R - 1)
   -- "these comparisons are at most 2 (R - 1) + (reach - 1)"
   pub bound : refusalOf letters R before ≡ 0 → 0 < R → comparisons (ranks letters) R ≤ 2 * (R - 1) + (reach (ranks letters) R - 1)
   -- "so a whole build takes at most 3 (n - 1)"

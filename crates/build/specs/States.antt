@@ -8,7 +8,7 @@ use Rattle.build.specs.declared.State.{State}
 use Rattle.build.specs.declared.SettledPair as declared
 
 abbrev pub progressOf : State → Progress
-progressOf s = record { reach = s .reach; shift = s .shift; comparisons = s .comparisons }
+progressOf s = record { reach = s .reach; shift = s .shift; equal = s .equal; unequal = s .unequal }
 
 abbrev pub pairOf : declared.SettledPair → SettledPair
 pairOf u = record { progress = progressOf (u .state); match = u .matched; leftSmaller = u .«left_smaller» }
@@ -29,7 +29,7 @@ clearedTables n k t = tablesOf (clearedFrom k n (t .previous)) (clearedFrom k n 
 abbrev pub buildState : State → Tables → BuildState
 buildState s t = record { progress = progressOf s; tables = t }
 
--- what is asked where (l, r) is settled from m, in a string of n letters: each place is in the string, and the count fits
+-- what is asked where (l, r) is settled from m, in a string of n letters: each place is in the string, and the counts fit
 pub record Safe (n : ℕ) (s : Progress) (l r m : ℕ) : Type 0 where
   pub before : l < r
   pub small : r < n
@@ -37,7 +37,8 @@ pub record Safe (n : ℕ) (s : Progress) (l r m : ℕ) : Type 0 where
   pub top : s .reach ≤ n
   pub shift : r + m < s .reach → s .shift ≤ l
   pub shifted : r + m < s .reach → 0 < s .shift
-  pub few : s .comparisons ≤ n + r + r
+  pub equal : s .equal < n
+  pub unequal : s .unequal ≤ n + n
 
 -- (l, r) is settled from m; or it is known that it has match m and that the suffix at r is the smaller
 abbrev pub settledFrom : Bool → List ℕ → Progress → Tables → ℕ → ℕ → ℕ → SettledPair

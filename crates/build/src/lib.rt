@@ -11,12 +11,14 @@ ghost use Rattle.build.specs.Built.{lent, BuiltExactly};
 use refusal::Refusal;
 use refusal::Verdict;
 
-// The state of a build: reach c, shift d, the rows done, the one that is walked included, and the comparisons made.
+// The state of a build: reach c, shift d, the rows done, the one that is walked included, and the comparisons made that
+// found two letters equal, and unequal.
 struct State {
     reach: usize,
     shift: usize,
     rows: usize,
-    comparisons: usize,
+    equal: usize,
+    unequal: usize,
 }
 
 // A pair (l, r) that is settled: the state after it, its match, and whether the suffix at l is the smaller.
@@ -29,7 +31,8 @@ struct SettledPair {
 // The figures of a build that is not refused.
 pub struct Report {
     pub rows: usize,
-    pub comparisons: usize,
+    pub equal: usize,
+    pub unequal: usize,
     pub reach: usize,
 }
 
@@ -66,7 +69,7 @@ impl State {
     // The end of a scan of (l, r), which finds the match m.
     fn stop(mut self, l: usize, r: usize, m: usize, left_smaller: bool) -> SettledPair
         requires { ⌜ (l < r) × (r + m ≤ 1000000) ⌝ }
-        ensures { λ u. ⌜ pairOf u ≡ record { progress = record { reach = r + m; shift = r - l; comparisons = self .comparisons }; match = m; leftSmaller = «left_smaller» } ⌝ }
+        ensures { λ u. ⌜ pairOf u ≡ record { progress = record { reach = r + m; shift = r - l; equal = self .equal; unequal = self .unequal }; match = m; leftSmaller = «left_smaller» } ⌝ }
         ensures { λ u. ⌜ u .state .rows ≡ self .rows ⌝ }
     {
         self.shift = r - l;
@@ -80,18 +83,19 @@ impl State {
 
     // Step 1: compares letters[l + m] with letters[r + m], raising m while they are equal.
     fn scan(mut self, letters: &[u8], l: usize, r: usize, from: usize) -> SettledPair
-        requires { ⌜ (l < r) × (r + from ≤ length (now letters)) × (length (now letters) ≤ 1000000) × (self .comparisons ≤ 1000000000) ⌝ }
+        requires { ⌜ (l < r) × (r + from ≤ length (now letters)) × (length (now letters) ≤ 1000000) × (self .equal ≤ 1000000) × (self .unequal ≤ 2000000) ⌝ }
         ensures { λ u. ⌜ pairOf u ≡ scanFrom (now (letters .entry)) (progressOf self) l r from ⌝ }
         ensures { λ u. ⌜ u .state .rows ≡ self .rows ⌝ }
     {
         let mut m = from;
         while r + m < letters.len() {
-            self.comparisons += 1;
             let a = letters[l + m];
             let b = letters[r + m];
             if a != b {
+                self.unequal += 1;
                 return self.stop(l, r, m, a < b);
             }
+            self.equal += 1;
             m += 1;
         }
         // at n, the suffix at r is the smaller
@@ -193,7 +197,8 @@ fn build_rows(
             reach: 0,
             shift: 0,
             rows: 0,
-            comparisons: 0,
+            equal: 0,
+            unequal: 0,
         };
     }
     let n = letters.len();
@@ -201,7 +206,8 @@ fn build_rows(
         reach: 1,
         shift: 0,
         rows: 1,
-        comparisons: 0,
+        equal: 0,
+        unequal: 0,
     };
     let mut bit = 0;
     // previous and its match of the row that is done last, still to be recorded
@@ -334,7 +340,8 @@ pub fn build(
     clear_tables(n, rows, previous, next, previous_match, next_match);
     let report = Report {
         rows: state.rows,
-        comparisons: state.comparisons,
+        equal: state.equal,
+        unequal: state.unequal,
         reach: state.reach,
     };
     if rows == n {

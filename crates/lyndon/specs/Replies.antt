@@ -17,9 +17,9 @@ use Rattle.lyndon.specs.declared.CabinetReply.{CabinetReply}
 
 -- "A refusal carries its number and no other figure": the others are 0
 abbrev pub buildReply : build.Figures → BuildReply
-buildReply (build.finished rows comparisons reach) = record { refusal = 0; finished = 1; rows = rows; comparisons = comparisons; reach = reach }
-buildReply (build.halted rows comparisons reach) = record { refusal = 0; finished = 0; rows = rows; comparisons = comparisons; reach = reach }
-buildReply (build.refused number) = record { refusal = number; finished = 0; rows = 0; comparisons = 0; reach = 0 }
+buildReply (build.finished rows equal unequal reach) = record { refusal = 0; finished = 1; rows = rows; equal = equal; unequal = unequal; reach = reach }
+buildReply (build.halted rows equal unequal reach) = record { refusal = 0; finished = 0; rows = rows; equal = equal; unequal = unequal; reach = reach }
+buildReply (build.refused number) = record { refusal = number; finished = 0; rows = 0; equal = 0; unequal = 0; reach = 0 }
 
 -- a build
 pub record BuildReplied (letters : List ℕ) (R : ℕ) (before after : build.Lent) (given : BuildReply) : Type 0 where

@@ -11,7 +11,8 @@ pub struct BuildReply {
     pub refusal: u32,
     pub finished: u32,
     pub rows: usize,
-    pub comparisons: usize,
+    pub equal: usize,
+    pub unequal: usize,
     pub reach: usize,
 }
 
@@ -44,21 +45,24 @@ fn build_reply(built: Built) -> BuildReply
             refusal: 0,
             finished: 1,
             rows: k.rows,
-            comparisons: k.comparisons,
+            equal: k.equal,
+            unequal: k.unequal,
             reach: k.reach,
         },
         Built::Halted(k) => BuildReply {
             refusal: 0,
             finished: 0,
             rows: k.rows,
-            comparisons: k.comparisons,
+            equal: k.equal,
+            unequal: k.unequal,
             reach: k.reach,
         },
         Built::Refused(k) => BuildReply {
             refusal: refusal::number(k),
             finished: 0,
             rows: 0,
-            comparisons: 0,
+            equal: 0,
+            unequal: 0,
             reach: 0,
         },
     }

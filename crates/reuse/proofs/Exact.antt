@@ -2,13 +2,12 @@
 use mathlib.Core.Path.{_≡_, refl, sym, ap, _∙_}
 use mathlib.Core.Logic.{_⊎_, inl, inr}
 use mathlib.Core.List.{List}
-use Prim.Native.Nat.{ℕ, zero, suc, _+_, _-_, _≤_, _<_}
+use Prim.Native.Nat.{ℕ, zero, suc, _+_, _-_, _*_, _≤_, _<_}
 use native.Mathlib.Omega.{arith}
 use lib.ListN.{length, getD, getD-replicate, length-replicate}
 use Rattle.suffix.specs.Search.{tabulate}
 use Rattle.suffix.specs.Nearest.{previous}
 use Rattle.suffix.specs.Rows.{Tables, previousAfter, previousMatchAfter, nextAfter, nextMatchAfter, tablesAfter, reach}
-use Rattle.suffix.specs.Tree.{unclosed}
 use Rattle.suffix.proofs.Cases.{Same, same, other, same?}
 use Rattle.suffix.proofs.Search.{tabulate-is}
 use Rattle.suffix.proofs.Sequence.{agree-none}
@@ -17,10 +16,10 @@ use Rattle.suffix.proofs.Order.{extended, lce-is}
 use Rattle.suffix.proofs.Nearest.{previous-none, next-at}
 use Rattle.suffix.proofs.Rows.{previousAfter-in, previousAfter-out, previousMatchAfter-in, previousMatchAfter-out, previousMatch-none, nextAfter-out, nextMatchAfter-out}
 use Rattle.suffix.proofs.Reach.{reach-most, reach-least, reach-one}
-use Rattle.suffix.proofs.Levels.{level-is, level-none}
-use Rattle.reuse.specs.Steps.{BuildState, ended, advances, stateOf, rowStart, row, start, afterRows}
+use Rattle.reuse.specs.Steps.{BuildState, ended, advances, stateOf, rowStart, row, start, afterRows, equalComparisons, unequalComparisons}
 use Rattle.reuse.specs.Claims.{Exact}
 use Rattle.reuse.proofs.Settle.{Filled, Last, unscanned, scanned, last-lower, last-fits}
+use Rattle.reuse.proofs.Cost.{entries, entries-below, entries-fewer, settledEntries}
 use Rattle.reuse.proofs.Row.{Sizes, Done, Holds, at-asked, Ended, advances-end}
 
 -- ---- the first row, and a further row
@@ -33,8 +32,11 @@ start-sizes y c =
     n : ℕ
     n = length y
 
+none-first : (y : List ℕ) → 0 < length y → previous y 0 ≡ length y
+none-first y some = previous-none y 0 some (record { least = λ k h. absurd (omega arith) })
+
 first-row : (y : List ℕ) → 0 < length y → Done y 1 (start y 1)
-unfolding start unclosed
+unfolding start
 first-row y some =
     record {
       sizes = start-sizes y 1;
@@ -44,14 +46,14 @@ first-row y some =
       nextMatch = λ i h. getD-replicate n i 0 0 h ∙ sym (nextMatchAfter-out y 1 i (omega (arith, next-at y i h .after)));
       last = unscanned refl;
       seen = λ a z e h. absurd (omega (arith, e .before));
-      cost = omega (arith, level-is y 0 some, ap (λ p. unclosed y (suc p)) none0, level-none y);
+      cost = record { equal = omega arith; unequal = omega arith };
     }
   where
     n : ℕ
     n = length y
 
     none0 : previous y 0 ≡ n
-    none0 = previous-none y 0 some (record { least = λ k h. absurd (omega arith) })
+    none0 = none-first y some
 
     none-at : (i : ℕ) → Same i 0 → previousAfter y 1 i ≡ n
     none-at i (same e) = rw e (previousAfter-in y 1 0 (omega arith) ∙ none0)
@@ -95,7 +97,7 @@ module _ (y : List ℕ) (r : ℕ) (pos : 0 < r) (small : r < length y) (s : Buil
               last = last-lower (suc (r - 1)) (omega arith) (D .last);
             };
         covered = record { seen = D .seen; here = λ a h e. absurd (omega (arith, e .before)) };
-        cost = rw z (omega (arith, D .cost));
+        cost = D .cost;
       })
     where
       z : suc (r - 1) ≡ r
@@ -150,6 +152,24 @@ reach-is y R s h g D = go (D .last)
         pick (inl w) = omega (arith, at-least w, most (omega (arith, P .edge .before, P .high)))
         pick (inr w) = absurd (omega (arith, w .0, w .1, P .edge .before))
 
+-- ---- the entries other than none: previous has none at 0 and from R on, next none from R - 1 on
+
+entries-few : (y : List ℕ) (R : ℕ) (s : BuildState) → 0 < R → R ≤ length y → Done y R s → settledEntries (length y) (s .tables) ≤ 2 * (R - 1)
+entries-few y R s h g D = omega (arith, few-previous, few-next)
+  where
+    n : ℕ
+    n = length y
+
+    few-previous : entries n (s .tables .previous) < R
+    few-previous =
+        entries-fewer n (s .tables .previous) R (omega (arith, D .sizes .previous)) (λ k a b. D .previous k (omega (arith, D .sizes .previous)) ∙ previousAfter-out y R k a) 0 h
+        (D .previous 0 (omega arith) ∙ previousAfter-in y R 0 h ∙ none-first y (omega arith))
+
+    few-next : entries n (s .tables .next) ≤ R - 1
+    few-next =
+        entries-below n (s .tables .next) (R - 1) (omega (arith, D .sizes .next))
+        (λ k a b. let w : k < n = omega (arith, D .sizes .next) in D .next k w ∙ nextAfter-out y R k (omega (arith, next-at y k w .after)))
+
 -- ---- all of it
 
 tables-are : (y : List ℕ) (R : ℕ) (t : Tables) → Sizes y t
@@ -176,6 +196,8 @@ no-rows y =
           (λ i h. getD-replicate n i 0 0 h ∙ sym (nextMatchAfter-out y 0 i (omega arith)));
       reached = refl;
       within = omega arith;
+      equal = λ h. absurd (omega arith);
+      unequal = λ h. absurd (omega arith);
       bound = λ h. absurd (omega arith);
       whole = λ h. absurd (omega arith);
       at-zero = λ h. refl;
@@ -190,15 +212,15 @@ exact y (suc r) g =
     let D : Done y (suc r) (afterRows y (suc r)) = rows-done y (suc r) (omega arith) g in
     let c : afterRows y (suc r) .progress .reach ≡ reach y (suc r) = reach-is y (suc r) (afterRows y (suc r)) (omega arith) g D in
     let fits : reach y (suc r) ≤ length y = omega (arith, c, last-fits (omega arith) g (D .last)) in
-    let least : 1 ≤ reach y (suc r) = reach-one y (suc r) (omega arith) in
+    let equal : equalComparisons y (suc r) < reach y (suc r) = omega (arith, c, D .cost .equal) in
+    let unequal : unequalComparisons y (suc r) ≤ 2 * (suc r - 1) = omega (arith, D .cost .unequal, entries-few y (suc r) (afterRows y (suc r)) (omega arith) g D) in
     record {
       tables = tables-are y (suc r) (afterRows y (suc r) .tables) (D .sizes) (D .previous) (D .next) (D .previousMatch) (D .nextMatch);
       reached = c;
       within = fits;
-      bound = λ _. omega (arith, c, D .cost, unclosed-pos);
-      whole = λ _ e. omega (arith, c, D .cost, unclosed-pos);
+      equal = λ _. omega arith;
+      unequal = λ _. omega arith;
+      bound = λ _. omega arith;
+      whole = λ _ e. omega arith;
       at-zero = λ e. absurd (omega arith);
     }
-  where
-    unclosed-pos : 1 ≤ unclosed y (suc r)
-    unclosed-pos = omega (arith, level-is y r (omega arith))

@@ -2,7 +2,7 @@
 use mathlib.Core.Path.{_≡_, refl}
 use mathlib.Core.Bool.{Bool, true, false, _&&_}
 use mathlib.Core.List.{List, [], _∷_}
-use Prim.Native.Nat.{ℕ, suc, _+_, _-_}
+use Prim.Native.Nat.{ℕ, suc, _+_, _-_, _*_}
 use lib.Dec.{eqb, ltb}
 use lib.ListN.{length}
 use Rattle.suffix.specs.Search.{allBelow, greatestBelow, leastFrom, sumBelow, maximumBelow, tabulate, tabulateFrom}
@@ -10,7 +10,7 @@ use Rattle.suffix.specs.Order.{lexLess, lcp, suffixLess, lce}
 use Rattle.suffix.specs.Nearest.{previous, next, previousMatch, nextMatch}
 use Rattle.suffix.specs.Rows.{previousAfter, previousMatchAfter, nextSettled, nextAfter, nextMatchAfter, Tables, tablesAfter, isPair, pairReach, reach}
 use Rattle.suffix.specs.Tree.{hanging, forestAfter, parentheses, byteOf, treeAfter, treeBytes}
-use Rattle.reuse.specs.Steps.{scan, scanFrom, reuse, settle, recordPrevious, recordNext, climb, advance, advances, stateOf, rowStart, row, start, afterRows}
+use Rattle.reuse.specs.Steps.{scan, scanFrom, reuse, settle, recordPrevious, recordNext, climb, advance, advances, stateOf, rowStart, row, start, afterRows, equalComparisons, unequalComparisons, comparisons}
 
 unfoldable sameList : List ℕ → List ℕ → Bool
 sameList [] [] = true
@@ -43,12 +43,27 @@ words-exact : exactFor words ≡ true
 unfolding exactFor words allBelow sameTables sameList greatestBelow leastFrom sumBelow maximumBelow tabulate tabulateFrom lexLess lcp suffixLess lce previous next previousMatch nextMatch previousAfter previousMatchAfter nextSettled nextAfter nextMatchAfter tablesAfter isPair pairReach reach hanging forestAfter parentheses byteOf treeAfter treeBytes scan scanFrom reuse settle recordPrevious recordNext climb advance advances stateOf rowStart row start afterRows
 words-exact = refl
 
--- `aabaaab` takes 12 comparisons
-count-12 : afterRows (0 ∷ 0 ∷ 1 ∷ 0 ∷ 0 ∷ 0 ∷ 1 ∷ []) 7 .progress .comparisons ≡ 12
-unfolding scan scanFrom reuse settle recordPrevious recordNext climb advance advances stateOf rowStart row start afterRows
-count-12 = refl
+-- `aabaaab` takes 4 equal comparisons and 8 unequal ones
+abbrev aabaaab : List ℕ
+aabaaab = 0 ∷ 0 ∷ 1 ∷ 0 ∷ 0 ∷ 0 ∷ 1 ∷ []
 
--- the bound with R - 1 once is too low: 0000100000, R = 6
-once-is-too-low : ltb (5 + (reach (0 ∷ 0 ∷ 0 ∷ 0 ∷ 1 ∷ 0 ∷ 0 ∷ 0 ∷ 0 ∷ 0 ∷ []) 6 - 1)) (afterRows (0 ∷ 0 ∷ 0 ∷ 0 ∷ 1 ∷ 0 ∷ 0 ∷ 0 ∷ 0 ∷ 0 ∷ []) 6 .progress .comparisons) ≡ true
-unfolding greatestBelow leastFrom sumBelow maximumBelow tabulate tabulateFrom lexLess lcp suffixLess lce previous next previousMatch nextMatch previousAfter previousMatchAfter nextSettled nextAfter nextMatchAfter tablesAfter isPair pairReach reach hanging forestAfter parentheses byteOf treeAfter treeBytes scan scanFrom reuse settle recordPrevious recordNext climb advance advances stateOf rowStart row start afterRows
-once-is-too-low = refl
+counts-4-8 : (equalComparisons aabaaab 7 ≡ 4) × (unequalComparisons aabaaab 7 ≡ 8)
+unfolding scan scanFrom reuse settle recordPrevious recordNext climb advance advances stateOf rowStart row start afterRows
+counts-4-8 = (refl, refl)
+
+-- Bounds that a string breaks: reach - 2 on the equal ones (`aa`, R = 2), R - 1 on the unequal ones (`acb`, R = 3), and R - 1 once on both
+-- together (0000100000, R = 6).
+abbrev aa : List ℕ
+aa = 0 ∷ 0 ∷ []
+
+abbrev acb : List ℕ
+acb = 0 ∷ 2 ∷ 1 ∷ []
+
+abbrev ten : List ℕ
+ten = 0 ∷ 0 ∷ 0 ∷ 0 ∷ 1 ∷ 0 ∷ 0 ∷ 0 ∷ 0 ∷ 0 ∷ []
+
+too-low :
+    (ltb (reach aa 2 - 2) (equalComparisons aa 2) ≡ true) × (ltb (3 - 1) (unequalComparisons acb 3) ≡ true)
+    × (ltb (1 * (6 - 1) + (reach ten 6 - 1)) (comparisons ten 6) ≡ true)
+unfolding greatestBelow leastFrom maximumBelow lexLess lcp suffixLess lce previous next isPair pairReach reach scan scanFrom reuse settle recordPrevious recordNext climb advance advances stateOf rowStart row start afterRows
+too-low = (refl, refl, refl)

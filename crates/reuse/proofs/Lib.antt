@@ -2,6 +2,7 @@ pub mod Examples
 pub mod Windows
 pub mod Scan
 pub mod Settle
+pub mod Cost
 pub mod RowKeeps
 pub mod Row
 pub mod Exact

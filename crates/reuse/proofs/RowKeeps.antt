@@ -10,18 +10,17 @@ use lib.Seq.{getD-set-same, getD-set-other}
 use Rattle.suffix.specs.Order.{lce}
 use Rattle.suffix.specs.Nearest.{previous, next, previousMatch}
 use Rattle.suffix.specs.Rows.{Tables, previousAfter, previousMatchAfter, nextAfter, nextMatchAfter}
-use Rattle.suffix.specs.Tree.{unclosed}
 use Rattle.suffix.proofs.Cases.{Tri, lt, eq, gt, tri, Same, same, other, same?}
 use Rattle.suffix.proofs.Sequence.{Agree, Less, asym, agree-match}
 use Rattle.suffix.proofs.Edges.{Edge, PreviousAt, NoPrevious, NextAt, edge-prev, edge-next, edge-step, edge-none, skipped, below-prev}
 use Rattle.suffix.proofs.Order.{extended, lce-is}
 use Rattle.suffix.proofs.Nearest.{previous-is, previous-none, next-at, next-is}
-use Rattle.suffix.proofs.Rows.{previousAfter-in, previousMatchAfter-in, previousMatch-some, previousMatch-none, nextAfter-in, nextMatchAfter-in, nextMatch-some, previousAfter-stays, previousMatchAfter-stays, nextAfter-stays, nextMatchAfter-stays}
-use Rattle.suffix.proofs.Levels.{level, level-is, level-none}
+use Rattle.suffix.proofs.Rows.{previousAfter-in, previousAfter-out, previousMatchAfter-in, previousMatch-some, previousMatch-none, nextAfter-in, nextAfter-out, nextMatchAfter-in, nextMatch-some, previousAfter-stays, previousMatchAfter-stays, nextAfter-stays, nextMatchAfter-stays}
 use Rattle.reuse.specs.Steps.{Progress, BuildState, SettledPair, Walk, asked, settled, ended, recordPrevious, recordNext}
 use Rattle.reuse.proofs.Windows.{shares-no-more}
 use Rattle.reuse.proofs.Scan.{Told}
 use Rattle.reuse.proofs.Settle.{Filled, Last, Asked, last-lower, last-row}
+use Rattle.reuse.proofs.Cost.{Cost, cost-next, cost-previous, cost-none}
 
 -- ---- what holds
 
@@ -61,7 +60,7 @@ pub record AtAsked (y : List ℕ) (r : ℕ) (s : Progress) (t : Tables) (l m : �
   pub sizes : Sizes y t
   pub asked : Asked y r l m s t
   pub covered : Covered y r (suc l) (s .reach)
-  pub cost : s .comparisons + level y l + 2 ≤ s .reach + r + r
+  pub cost : Cost (length y) s t 0
 
 -- where (l, r) is settled
 pub record AtSettled (y : List ℕ) (r : ℕ) (u : SettledPair) (t : Tables) (l : ℕ) : Type 0 where
@@ -71,7 +70,7 @@ pub record AtSettled (y : List ℕ) (r : ℕ) (u : SettledPair) (t : Tables) (l 
   pub told : Told y l r (u .match) (u .leftSmaller)
   pub last : Last y (u .progress .reach) (u .progress .shift) r l
   pub covered : Covered y r l (u .progress .reach)
-  pub cost : u .progress .comparisons + level y l + 1 ≤ u .progress .reach + r + r
+  pub cost : Cost (length y) (u .progress) t 1
 
 -- R rows are done
 pub record Done (y : List ℕ) (R : ℕ) (s : BuildState) : Type 0 where
@@ -82,7 +81,7 @@ pub record Done (y : List ℕ) (R : ℕ) (s : BuildState) : Type 0 where
   pub nextMatch : (i : ℕ) → i < length y → getD (s .tables .nextMatch) i 0 ≡ nextMatchAfter y R i
   pub last : Last y (s .progress .reach) (s .progress .shift) R R
   pub seen : (a z : ℕ) → Edge (extended y) a z → z < R → z + lce y a z ≤ s .progress .reach
-  pub cost : s .progress .comparisons + unclosed y R + 2 ≤ s .progress .reach + R + R
+  pub cost : Cost (length y) (s .progress) (s .tables) 0
 
 pub data Holds (y : List ℕ) (r : ℕ) : Walk → Type 0 where
   at-asked : {s : Progress} {t : Tables} {l m : ℕ} → AtAsked y r s t l m → Holds y r (asked s t l m)
@@ -117,6 +116,10 @@ module _ (y : List ℕ) (r : ℕ) (small : r < length y) where
       high i g w low up keeps (eq x) = up (omega arith) w
       high i g w low up keeps (gt x) = up (omega arith) w
 
+  -- previous[r] is not yet recorded
+  unwritten : {b : ℕ} {t : Tables} → Filled y r b t → getD (t .previous) r 0 ≡ length y
+  unwritten T = T .previous r small ∙ previousAfter-out y r r (omega arith)
+
   -- the row ends with previous[r] = p, with match m
   record End (s : Progress) (t : Tables) (p m : ℕ) : Type 0 where
     sizes : Sizes y t
@@ -125,7 +128,7 @@ module _ (y : List ℕ) (r : ℕ) (small : r < length y) where
     covered : Covered y r 0 (s .reach)
     place : previous y r ≡ p
     match : previousMatch y r ≡ m
-    cost : s .comparisons + level y r ≤ s .reach + r + r
+    cost : Cost (length y) s (recordPrevious t r p m) 0
 
   end : (s : Progress) (t : Tables) (p m : ℕ) → End s t p m → Done y (suc r) (record { progress = s; tables = recordPrevious t r p m })
   unfolding recordPrevious
@@ -142,7 +145,7 @@ module _ (y : List ℕ) (r : ℕ) (small : r < length y) where
         nextMatch = λ i w. E .filled .nextMatchHigh i (omega arith) w;
         last = last-row (suc r) (E .last);
         seen = λ a z e h. seen a z e h (same? z r);
-        cost = omega (arith, E .cost);
+        cost = E .cost;
       }
     where
       seen : (a z : ℕ) → Edge (extended y) a z → z < suc r → Same z r → z + lce y a z ≤ s .reach
@@ -171,7 +174,7 @@ module _ (y : List ℕ) (r : ℕ) (small : r < length y) where
         match =
             previousMatch-some y r l (omega (arith, M .edge .before)) place
             ∙ lce-is y l r (omega (arith, M .edge .before)) (omega (arith, M .edge .before)) (omega arith) (u .match) (M .told .match);
-        cost = omega (arith, M .cost, level-is y r small, ap (level y) place);
+        cost = cost-previous r l (u .match) (omega (arith, M .sizes .previous)) (unwritten (M .filled)) (omega (arith, M .edge .before)) (M .cost);
       })
     where
       P : PreviousAt (extended y) r l
@@ -230,6 +233,11 @@ module _ (y : List ℕ) (r : ℕ) (small : r < length y) where
             ∙ nextMatch-some y l r (omega arith) next-l
             ∙ lce-is y l r (omega (arith, M .edge .before)) (omega arith) (omega arith) (u .match) (M .told .match)
 
+    put-cost : Cost (length y) (u .progress) t′ 0
+    put-cost =
+        cost-next l r (u .match) (omega (arith, M .sizes .next, l-in)) (M .filled .nextLow l (omega arith) l-in ∙ nextAfter-out y r l (omega (arith, next-l)))
+        (omega arith) (M .cost)
+
     -- l has no previous: neither has r
     pub finish-none : NoPrevious (extended y) l → Done y (suc r) (record { progress = u .progress; tables = recordPrevious t′ r (length y) 0 })
     finish-none q =
@@ -242,7 +250,7 @@ module _ (y : List ℕ) (r : ℕ) (small : r < length y) where
           covered = covered-all (λ a w e. asym (extended y) (e .left l w (M .edge .before)) (q .least a w)) (M .covered);
           place = place;
           match = previousMatch-none y r place;
-          cost = omega (arith, M .cost, level-is y r small, ap (level y) place, level-none y, level-is y l l-in);
+          cost = cost-none r 0 (unwritten put-filled) put-cost;
         })
       where
         place : previous y r ≡ length y
@@ -255,9 +263,6 @@ module _ (y : List ℕ) (r : ℕ) (small : r < length y) where
 
       up-filled : Filled y r (suc p) t′
       up-filled = filled-lower (suc p) (P .before) (λ i h w v e. skipped (extended y) P (M .edge .before) h w (rw e at (next-at y i v))) put-filled
-
-      up-level : level y l ≡ suc (level y p)
-      up-level = level-is y l l-in ∙ ap (λ x. suc (level y x)) (previous-is y l l-in p P)
 
       up-covered : Covered y r (suc p) (u .progress .reach)
       up-covered = record { seen = M .covered .seen; here = λ a v e. go a v e (tri a l) }
@@ -277,7 +282,7 @@ module _ (y : List ℕ) (r : ℕ) (small : r < length y) where
             told = o;
             last = last-lower p (omega (arith, P .before)) (M .last);
             covered = record { seen = M .covered .seen; here = λ a v e. go a v e (same? a p) };
-            cost = omega (arith, M .cost, up-level);
+            cost = record { equal = put-cost .equal; unequal = omega (arith, put-cost .unequal) };
           }
         where
           -- the pair (l, r) reaches at least as far
@@ -306,7 +311,7 @@ module _ (y : List ℕ) (r : ℕ) (small : r < length y) where
                   last = last-lower (suc p) (P .before) (M .last);
                 };
             covered = up-covered;
-            cost = omega (arith, M .cost, up-level);
+            cost = put-cost;
           }
         where
           go : (h x : ℕ) → p < h → h < r → Agree (extended y) h r x → Tri h l → x ≤ u .match

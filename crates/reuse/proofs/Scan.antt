@@ -27,31 +27,35 @@ pub record Told (y : List ℕ) (l r : ℕ) (m : ℕ) (b : Bool) : Type 0 where
   pub left : b ≡ true → Less (extended y) l r
   pub right : b ≡ false → Less (extended y) r l
 
--- what a scan of (l, r) from m gives, where so many comparisons were made before
-pub record Scanned (y : List ℕ) (l r m comparisons : ℕ) (u : SettledPair) : Type 0 where
+-- what a scan of (l, r) from m gives, where so many comparisons found the letters equal before, and so many unequal
+pub record Scanned (y : List ℕ) (l r m equal unequal : ℕ) (u : SettledPair) : Type 0 where
   pub told : Told y l r (u .match) (u .leftSmaller)
   pub reach : u .progress .reach ≡ r + u .match
   pub shift : u .progress .shift ≡ r - l
   pub more : m ≤ u .match
-  pub cost : u .progress .comparisons + m ≤ comparisons + u .match + 1
+  -- one comparison for each letter that is equal, and at most one that is not
+  pub equal-grows : u .progress .equal + m ≡ equal + u .match
+  pub unequal-grows : u .progress .unequal ≤ suc unequal
+
+-- a scan that stops at m, with these counts and this order
+abbrev pub stopped : ℕ → ℕ → ℕ → ℕ → ℕ → Bool → SettledPair
+stopped l r m equal unequal b = record { progress = record { reach = r + m; shift = r - l; equal = equal; unequal = unequal }; match = m; leftSmaller = b }
 
 -- the clauses of the scan
-pub scan-equal : (y : List ℕ) (l r m k comparisons : ℕ) → getD y (l + m) 0 ≡ getD y (r + m) 0 → scan y l r m (suc k) comparisons ≡ scan y l r (suc m) k (suc comparisons)
-unfolding scan
-scan-equal y l r m k comparisons e = rw (eq-eqb _ _ e, scan)
+module _ (y : List ℕ) (l r m k equal unequal : ℕ) where
+  pub scan-equal : getD y (l + m) 0 ≡ getD y (r + m) 0 → scan y l r m (suc k) equal unequal ≡ scan y l r (suc m) k (suc equal) unequal
+  unfolding scan
+  scan-equal e = rw (eq-eqb _ _ e, scan)
 
--- a scan that stops at m, with this comparisons and order
-abbrev pub stopped : ℕ → ℕ → ℕ → ℕ → Bool → SettledPair
-stopped l r m comparisons b = record { progress = record { reach = r + m; shift = r - l; comparisons = comparisons }; match = m; leftSmaller = b }
+  pub scan-unequal : getD y (l + m) 0 ≢ getD y (r + m) 0
+      → scan y l r m (suc k) equal unequal ≡ stopped l r m equal (suc unequal) (ltb (getD y (l + m) 0) (getD y (r + m) 0))
+  unfolding scan
+  scan-unequal e = rw (ne-eqb _ _ e, scan)
 
-pub scan-unequal : (y : List ℕ) (l r m k comparisons : ℕ) → getD y (l + m) 0 ≢ getD y (r + m) 0
-    → scan y l r m (suc k) comparisons ≡ stopped l r m (suc comparisons) (ltb (getD y (l + m) 0) (getD y (r + m) 0))
+scan-told : (y : List ℕ) (l r m k equal unequal : ℕ) → l < r → r + m + k ≡ length y → Agree (extended y) l r m
+    → Scanned y l r m equal unequal (scan y l r m k equal unequal)
 unfolding scan
-scan-unequal y l r m k comparisons e = rw (ne-eqb _ _ e, scan)
-
-scan-told : (y : List ℕ) (l r m k comparisons : ℕ) → l < r → r + m + k ≡ length y → Agree (extended y) l r m → Scanned y l r m comparisons (scan y l r m k comparisons)
-unfolding scan
-scan-told y l r m zero comparisons h n a =
+scan-told y l r m zero equal unequal h n a =
     let u : extended y (r + m) ≡ 0 = extended-out y (r + m) (omega arith) in
     let v : extended y (l + m) ≡ suc (getD y (l + m) 0) = extended-in y (l + m) (omega arith) in
     record {
@@ -64,9 +68,11 @@ scan-told y l r m zero comparisons h n a =
       reach = refl;
       shift = refl;
       more = omega arith;
-      cost = omega arith;
+      equal-grows = refl;
+      unequal-grows = omega arith;
     }
-scan-told y l r m (suc k) comparisons h n a = go (same? (getD y (l + m) 0) (getD y (r + m) 0)) (λ p q. scan-told y l r (suc m) k (suc comparisons) h p q)
+scan-told y l r m (suc k) equal unequal h n a =
+    go (same? (getD y (l + m) 0) (getD y (r + m) 0)) (λ p q. scan-told y l r (suc m) k (suc equal) unequal h p q)
   where
     el : extended y (l + m) ≡ suc (getD y (l + m) 0)
     el = extended-in y (l + m) (omega arith)
@@ -74,15 +80,15 @@ scan-told y l r m (suc k) comparisons h n a = go (same? (getD y (l + m) 0) (getD
     er : extended y (r + m) ≡ suc (getD y (r + m) 0)
     er = extended-in y (r + m) (omega arith)
 
-    wider : {u : SettledPair} → Scanned y l r (suc m) (suc comparisons) u → Scanned y l r m comparisons u
-    wider w = record { told = w .told; reach = w .reach; shift = w .shift; more = omega arith; cost = omega arith }
+    wider : {u : SettledPair} → Scanned y l r (suc m) (suc equal) unequal u → Scanned y l r m equal unequal u
+    wider w = record { told = w .told; reach = w .reach; shift = w .shift; more = omega arith; equal-grows = omega arith; unequal-grows = w .unequal-grows }
 
     go : Same (getD y (l + m) 0) (getD y (r + m) 0)
-        → (r + suc m + k ≡ length y → Agree (extended y) l r (suc m) → Scanned y l r (suc m) (suc comparisons) (scan y l r (suc m) k (suc comparisons)))
-        → Scanned y l r m comparisons (scan y l r m (suc k) comparisons)
-    go (same e) ih = rw (scan-equal y l r m k comparisons e) (wider (ih (omega arith) (agree-more (extended y) a (el ∙ ap suc e ∙ sym er))))
+        → (r + suc m + k ≡ length y → Agree (extended y) l r (suc m) → Scanned y l r (suc m) (suc equal) unequal (scan y l r (suc m) k (suc equal) unequal))
+        → Scanned y l r m equal unequal (scan y l r m (suc k) equal unequal)
+    go (same e) ih = rw (scan-equal y l r m k equal unequal e) (wider (ih (omega arith) (agree-more (extended y) a (el ∙ ap suc e ∙ sym er))))
     go (other e) ih =
-        rw (scan-unequal y l r m k comparisons e)
+        rw (scan-unequal y l r m k equal unequal e)
         (record {
           told =
               record {
@@ -93,9 +99,11 @@ scan-told y l r m (suc k) comparisons h n a = go (same? (getD y (l + m) 0) (getD
           reach = refl;
           shift = refl;
           more = omega arith;
-          cost = omega arith;
+          equal-grows = refl;
+          unequal-grows = omega arith;
         })
 
-pub scan-from : (y : List ℕ) (s : Progress) (l r m : ℕ) → l < r → r + m ≤ length y → Agree (extended y) l r m → Scanned y l r m (s .comparisons) (scanFrom y s l r m)
+pub scan-from : (y : List ℕ) (s : Progress) (l r m : ℕ) → l < r → r + m ≤ length y → Agree (extended y) l r m
+    → Scanned y l r m (s .equal) (s .unequal) (scanFrom y s l r m)
 unfolding scanFrom
-scan-from y s l r m h n a = scan-told y l r m (length y - (r + m)) (s .comparisons) h (omega arith) a
+scan-from y s l r m h n a = scan-told y l r m (length y - (r + m)) (s .equal) (s .unequal) h (omega arith) a

@@ -82,7 +82,8 @@ pub record Settled (y : List ℕ) (s : Progress) (l r : ℕ) (u : SettledPair) :
   pub covers : r + u .match ≤ u .progress .reach
   pub grows : s .reach ≤ u .progress .reach
   pub last : Last y (u .progress .reach) (u .progress .shift) r l
-  pub cost : u .progress .comparisons + s .reach ≤ s .comparisons + u .progress .reach + 1
+  pub equal-grows : u .progress .equal + s .reach ≤ s .equal + u .progress .reach
+  pub unequal-grows : u .progress .unequal ≤ suc (s .unequal)
 
 -- ---- the last pair
 
@@ -159,7 +160,7 @@ module _ (y : List ℕ) (s : Progress) (l r : ℕ) (small : r < length y) (e : E
   from-scan : (m : ℕ) → s .reach ≤ r + m → Agree (extended y) l r m → Settled y s l r (scanFrom y s l r m)
   from-scan m h a = done (scan-from y s l r m (e .before) (agree-fits y (e .before) (omega arith) a) a)
     where
-      done : {u : SettledPair} → Scanned y l r m (s .comparisons) u → Settled y s l r u
+      done : {u : SettledPair} → Scanned y l r m (s .equal) (s .unequal) u → Settled y s l r u
       done {u} S =
           let z : r - u .progress .shift ≡ l = omega (arith, S .shift, e .before) in
           let x : u .progress .reach - r ≡ u .match = omega (arith, S .reach) in
@@ -177,7 +178,8 @@ module _ (y : List ℕ) (s : Progress) (l r : ℕ) (small : r < length y) (e : E
                   match = rw (z, x) (S .told .match);
                   place = inr (refl, omega arith);
                 });
-            cost = omega (arith, S .cost, S .reach);
+            equal-grows = omega (arith, S .equal-grows, S .reach);
+            unequal-grows = S .unequal-grows;
           }
 
   module _ (L : LastPair y (s .reach) (s .shift) r (suc l)) (at : L .at ≤ l) (near : r < s .reach) where
@@ -197,7 +199,8 @@ module _ (y : List ℕ) (s : Progress) (l r : ℕ) (small : r < length y) (e : E
               covers = omega arith;
               grows = omega arith;
               last = last-lower l (omega arith) (scanned L);
-              cost = omega arith;
+              equal-grows = omega arith;
+              unequal-grows = omega arith;
             }
           where
             left : Less (extended y) (l - s .shift) (r - s .shift) → Less (extended y) l r

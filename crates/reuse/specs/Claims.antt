@@ -5,18 +5,23 @@ use mathlib.Core.List.{List}
 use Prim.Native.Nat.{ℕ, _+_, _-_, _*_, _≤_, _<_}
 use lib.ListN.{length, getD}
 use Rattle.suffix.specs.Rows.{Tables, tablesAfter, reach}
-use Rattle.reuse.specs.Steps.{Progress, asked, ended, advances, rowStart, row, afterRows}
+use Rattle.reuse.specs.Steps.{Progress, asked, ended, advances, rowStart, row, afterRows, equalComparisons, unequalComparisons, comparisons}
 
 -- What the steps leave after R rows: the tables and the reach of the definitions; and what that may cost. The steps do not speak of
--- the tree, nor does this. Demand 3: "these comparisons are at most 2 (R - 1) + (reach - 1). Reach never passes n, so a whole build
--- takes at most 3 (n - 1)." Document 01: "For R = 0 comparisons and reach are 0."
+-- the tree, nor does this.
 pub record Exact (y : List ℕ) (R : ℕ) : Type 0 where
   pub tables : afterRows y R .tables ≡ tablesAfter y R
   pub reached : afterRows y R .progress .reach ≡ reach y R
+  -- demand 3: "Reach never passes n"
   pub within : reach y R ≤ length y
-  pub bound : 0 < R → afterRows y R .progress .comparisons ≤ 2 * (R - 1) + (reach y R - 1)
-  pub whole : 0 < R → R ≡ length y → afterRows y R .progress .comparisons ≤ 3 * (length y - 1)
-  pub at-zero : R ≡ 0 → afterRows y R .progress .comparisons ≡ 0
+  -- T-02: "with R ≥ 1 rows done, equal ones are at most reach less one, unequal ones at most twice (R less one)."
+  pub equal : 0 < R → equalComparisons y R ≤ reach y R - 1
+  pub unequal : 0 < R → unequalComparisons y R ≤ 2 * (R - 1)
+  -- demand 3: "these comparisons are at most 2 (R - 1) + (reach - 1)", "so a whole build takes at most 3 (n - 1)."
+  pub bound : 0 < R → comparisons y R ≤ 2 * (R - 1) + (reach y R - 1)
+  pub whole : 0 < R → R ≡ length y → comparisons y R ≤ 3 * (length y - 1)
+  -- document 01: "For R = 0 comparisons and reach are 0."
+  pub at-zero : R ≡ 0 → comparisons y R ≡ 0
 
 -- "These entries .. are the definitions that demand 3 means": whatever the letters and whatever R
 abbrev pub StepsAreExact : Type 0

@@ -7,11 +7,12 @@ use lib.Dec.{eqb, ltb}
 use lib.ListN.{length, getD, set, replicate}
 use Rattle.suffix.specs.Rows.{Tables}
 
--- reach c, shift d, and the comparisons made so far
+-- reach c, shift d, and the comparisons made so far, "equal and unequal comparisons as two numbers" (document 02, T-02)
 pub record Progress : Type 0 where
   pub reach : ℕ
   pub shift : ℕ
-  pub comparisons : ℕ
+  pub equal : ℕ
+  pub unequal : ℕ
 
 -- what the steps have after a row; the tables hold what they recorded
 pub record BuildState : Type 0 where
@@ -24,26 +25,26 @@ pub record SettledPair : Type 0 where
   pub match : ℕ
   pub leftSmaller : Bool
 
--- Step 1, with k letters left from r + m on, and so many comparisons made before: "compare y[l + m] with y[r + m], raising m by 1
--- while equal, and stop at the first unequal letters or when r + m = n. Then c = r + m and d = r − l, also where c didn't grow. At n,
--- the suffix at r is the smaller." "A comparison looks at two letters and tells less, equal or greater; it counts 1.": the order at
--- the first unequal letters is that comparison's.
-unfoldable pub scan : List ℕ → ℕ → ℕ → ℕ → ℕ → ℕ → SettledPair
-scan y l r m zero comparisons =
-    record { progress = record { reach = r + m; shift = r - l; comparisons = comparisons }; match = m; leftSmaller = false }
-scan y l r m (suc k) comparisons =
+-- Step 1, with k letters left from r + m on, and so many comparisons made before that found the letters equal, and unequal: "compare
+-- y[l + m] with y[r + m], raising m by 1 while equal, and stop at the first unequal letters or when r + m = n. Then c = r + m and
+-- d = r − l, also where c didn't grow. At n, the suffix at r is the smaller." "A comparison looks at two letters and tells less, equal
+-- or greater; it counts 1.": the order at the first unequal letters is that comparison's.
+unfoldable pub scan : List ℕ → ℕ → ℕ → ℕ → ℕ → ℕ → ℕ → SettledPair
+scan y l r m zero equal unequal =
+    record { progress = record { reach = r + m; shift = r - l; equal = equal; unequal = unequal }; match = m; leftSmaller = false }
+scan y l r m (suc k) equal unequal =
     elim (eqb (getD y (l + m) 0) (getD y (r + m) 0)) [
-      | true ↦ scan y l r (suc m) k (suc comparisons)
+      | true ↦ scan y l r (suc m) k (suc equal) unequal
       | false ↦
           record {
-            progress = record { reach = r + m; shift = r - l; comparisons = suc comparisons };
+            progress = record { reach = r + m; shift = r - l; equal = equal; unequal = suc unequal };
             match = m;
             leftSmaller = ltb (getD y (l + m) 0) (getD y (r + m) 0);
           }
     ]
 
 unfoldable pub scanFrom : List ℕ → Progress → ℕ → ℕ → ℕ → SettledPair
-scanFrom y s l r m = scan y l r m (length y - (r + m)) (s .comparisons)
+scanFrom y s l r m = scan y l r m (length y - (r + m)) (s .equal) (s .unequal)
 
 -- Step 2, the recorded pair having match v and order b: "If r + v < c, m becomes v and the order is that of the recorded pair, with
 -- no comparison. If r + v ≥ c, set m = c − r and scan as in step 1."
@@ -134,7 +135,7 @@ unfoldable pub start : List ℕ → ℕ → BuildState
 start y c =
     let n = length y in
     record {
-      progress = record { reach = c; shift = 0; comparisons = 0 };
+      progress = record { reach = c; shift = 0; equal = 0; unequal = 0 };
       tables = record { previous = replicate n n; next = replicate n n; previousMatch = replicate n 0; nextMatch = replicate n 0 };
     }
 
@@ -143,3 +144,15 @@ unfoldable pub afterRows : List ℕ → ℕ → BuildState
 afterRows y zero = start y 0
 afterRows y (suc zero) = start y 1
 afterRows y (suc (suc r)) = row y (afterRows y (suc r)) (suc r)
+
+-- "Comparisons are those that the reuse steps below count in rows 0 to R − 1.", as document 02's T-02 has them: "equal and unequal
+-- comparisons as two numbers instead of their sum, each exactly as many as the reuse steps make."
+abbrev pub equalComparisons : List ℕ → ℕ → ℕ
+equalComparisons y R = afterRows y R .progress .equal
+
+abbrev pub unequalComparisons : List ℕ → ℕ → ℕ
+unequalComparisons y R = afterRows y R .progress .unequal
+
+-- document 01's count: their sum
+abbrev pub comparisons : List ℕ → ℕ → ℕ
+comparisons y R = equalComparisons y R + unequalComparisons y R

@@ -9,10 +9,10 @@ use Rattle.suffix.specs.Lyndon.{isLyndon, part, longestLyndon}
 use Rattle.refusal.specs.Numbers.{lowest, lowestFrom}
 use Rattle.refusal.specs.Conditions.{byteBit, bitOf, spareBitSet, closedTooEarly, leftOpen, buildRefusal, readRefusal, wordRefusal}
 use Rattle.reuse.specs.Steps.{scan, scanFrom, reuse, settle, recordPrevious, recordNext, climb, advance, advances, stateOf, rowStart, row, start, afterRows}
-use Rattle.build.specs.Built.{lentAfter, comparisons, refusalOf, answer, lentAtExit}
+use Rattle.build.specs.Built.{lentAfter, refusalOf, answer, lentAtExit}
 use Rattle.word.specs.Word.{wordPart, wordStart}
 use Rattle.specimens.specs.Specimens.{SpecimensHold}
 
 pub specimensHold : SpecimensHold
-unfolding anyBelow allBelow countBelow greatestBelow leastFrom sumBelow maximumBelow tabulate tabulateFrom lexLess lcp suffixLess lce previous next previousMatch nextMatch previousAfter previousMatchAfter nextSettled nextAfter nextMatchAfter tablesAfter isPair pairReach reach hanging forestAfter parentheses byteOf treeAfter treeBytes isLyndon part longestLyndon lowest lowestFrom byteBit bitOf spareBitSet closedTooEarly leftOpen buildRefusal readRefusal wordRefusal scan scanFrom reuse settle recordPrevious recordNext climb advance advances stateOf rowStart row start afterRows lentAfter comparisons refusalOf answer lentAtExit wordPart wordStart
+unfolding anyBelow allBelow countBelow greatestBelow leastFrom sumBelow maximumBelow tabulate tabulateFrom lexLess lcp suffixLess lce previous next previousMatch nextMatch previousAfter previousMatchAfter nextSettled nextAfter nextMatchAfter tablesAfter isPair pairReach reach hanging forestAfter parentheses byteOf treeAfter treeBytes isLyndon part longestLyndon lowest lowestFrom byteBit bitOf spareBitSet closedTooEarly leftOpen buildRefusal readRefusal wordRefusal scan scanFrom reuse settle recordPrevious recordNext climb advance advances stateOf rowStart row start afterRows lentAfter refusalOf answer lentAtExit wordPart wordStart
 specimensHold = refl

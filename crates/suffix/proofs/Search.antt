@@ -119,6 +119,16 @@ module _ (g : ℕ → Bool) where
       go (holds e) ih = omega (arith, count-yes n e)
       go (fails e) ih = omega (arith, count-no n e)
 
+  -- one that is not counted
+  pub count-less : (n j : ℕ) → j < n → g j ≡ false → countBelow n g < n
+  count-less zero j h e = absurd (omega arith)
+  count-less (suc n) j h e = go (same? j n) (test (g n)) (λ w. count-less n j w e)
+    where
+      go : Same j n → Test (g n) → (j < n → countBelow n g < n) → countBelow (suc n) g < suc n
+      go (same z) t ih = omega (arith, count-no n (rw z at e), count-most n)
+      go (other z) (holds w) ih = omega (arith, count-yes n w, ih (omega arith))
+      go (other z) (fails w) ih = omega (arith, count-no n w, ih (omega arith))
+
   -- nothing is counted from m on
   pub count-stop : (m n : ℕ) → m ≤ n → ((k : ℕ) → m ≤ k → k < n → g k ≡ false) → countBelow n g ≡ countBelow m g
   count-stop m zero h q = ap (λ k. countBelow k g) (omega arith)
@@ -145,6 +155,16 @@ count-same g h (suc n) q = go (test (g n)) (count-same g h n (λ k w. q k (omega
     go : Test (g n) → countBelow n g ≡ countBelow n h → countBelow (suc n) g ≡ countBelow (suc n) h
     go (holds e) ih = count-yes g n e ∙ ap suc ih ∙ sym (count-yes h n (sym (q n (omega arith)) ∙ e))
     go (fails e) ih = count-no g n e ∙ ih ∙ sym (count-no h n (sym (q n (omega arith)) ∙ e))
+
+-- one more is counted
+pub count-raise : (g h : ℕ → Bool) (n i : ℕ) → i < n → g i ≡ false → h i ≡ true → ((k : ℕ) → k < n → k ≢ i → g k ≡ h k) → countBelow n h ≡ suc (countBelow n g)
+count-raise g h zero i a d e q = absurd (omega arith)
+count-raise g h (suc n) i a d e q = go (same? i n) (test (g n)) (λ w. count-raise g h n i w d e (λ k b c. q k (omega arith) c))
+  where
+    go : Same i n → Test (g n) → (i < n → countBelow n h ≡ suc (countBelow n g)) → countBelow (suc n) h ≡ suc (countBelow (suc n) g)
+    go (same z) t ih = omega (arith, count-no g n (rw z at d), count-yes h n (rw z at e), count-same g h n (λ k b. q k (omega arith) (omega arith)))
+    go (other z) (holds w) ih = omega (arith, count-yes g n w, count-yes h n (sym (q n (omega arith) (omega arith)) ∙ w), ih (omega arith))
+    go (other z) (fails w) ih = omega (arith, count-no g n w, count-no h n (sym (q n (omega arith) (omega arith)) ∙ w), ih (omega arith))
 
 module _ (g h : ℕ → ℕ) where
   pub sum-same : (n : ℕ) → ((k : ℕ) → k < n → g k ≡ h k) → sumBelow n g ≡ sumBelow n h

@@ -2,19 +2,22 @@
 use mathlib.Core.Path.{_≡_, refl, sym, ap, _∙_}
 use mathlib.Core.Bool.{false}
 use mathlib.Core.List.{List, [], _∷_}
-use Prim.Native.Nat.{ℕ, zero, suc, _≤_, _<_}
+use Prim.Native.Nat.{ℕ, zero, suc, _*_, _≤_, _<_}
 use native.Mathlib.Omega.{arith}
 use lib.ListN.{length, getD, take}
 use borrow.Author.Tests.{lt-ltb, le-ltb, eq-eqb}
 use Rattle.suffix.specs.Search.{tabulate}
 use Rattle.suffix.specs.Nearest.{previous, next}
 use Rattle.suffix.specs.Tree.{treeBytes, treeLength, byteOf, treeAfter}
+use Rattle.suffix.proofs.Cases.{Same, same, other, same?}
 use Rattle.suffix.proofs.Search.{tabulate-length, tabulate-entry}
 use Rattle.suffix.proofs.Laws.{allRowsGiveAllEntries}
 use Rattle.refusal.specs.Numbers.{lowest, lowestFrom}
 use Rattle.refusal.specs.Conditions.{buildRefusal}
 use Rattle.build.specs.declared.Built.{Built}
-use Rattle.build.specs.Built.{Lent, lentAfter, comparisons, figuresOf, refusalOf, answer, lentAtExit, BuiltExactly}
+use Rattle.reuse.specs.Steps.{comparisons}
+use Rattle.reuse.proofs.Laws.{stepsAreExact}
+use Rattle.build.specs.Built.{Lent, lentAfter, figuresOf, refusalOf, answer, lentAtExit, BuiltExactly}
 use Rattle.tables.specs.Text.{headText, lines, tablesText, tooLongText, programText, Rendered}
 use Rattle.writing.specs.Writing.{Wrote}
 use Rattle.tables.specs.Buffers.{Room, WholeBuild, countOf}
@@ -41,6 +44,13 @@ module _ (y : List ℕ) (before after : Lent) (b : Built) (accepted : refusalOf 
       let z : countOf (answer y (length y) before) ≡ comparisons y (length y) =
       rw (eq-eqb (refusalOf y (length y) before) 0 accepted, eq-eqb (length y) (length y) refl, answer)
       in ap countOf (e .answers) ∙ z
+
+  few : length y ≤ 2048 → countOf (figuresOf b) ≤ 3 * 2047
+  few h = go (same? (length y) 0)
+    where
+      go : Same (length y) 0 → countOf (figuresOf b) ≤ 3 * 2047
+      go (same z) = omega (arith, counted, stepsAreExact y (length y) (omega arith) .at-zero z)
+      go (other z) = omega (arith, counted, e .bounded .whole accepted refl (omega arith))
 
   left : after ≡ lentAfter y (length y)
   unfolding lentAtExit
@@ -70,14 +80,16 @@ module _ (y : List ℕ) (before after : Lent) (b : Built) (accepted : refusalOf 
       }
 
 -- where the memory has room
-pub whole-build :
-    {y : List ℕ} {before after : Lent} {b : Built} {c : ℕ}
-    → Room (length y) (length (before .tables .previous)) (length (before .tables .next)) (length (before .tables .previousMatch)) (length (before .tables .nextMatch)) (length (before .tree))
-    → BuiltExactly y (length y) before after b
-    → c ≡ countOf (figuresOf b)
-    → WholeBuild y (after .tables .previous) (after .tables .next) (after .tree) c
-unfolding refusalOf
-whole-build {y} {before} {after} {b} r e z = rw z (exactly y before after b (taken r) e)
+module _ {y : List ℕ} {before after : Lent} {b : Built}
+    (r : Room (length y) (length (before .tables .previous)) (length (before .tables .next)) (length (before .tables .previousMatch)) (length (before .tables .nextMatch)) (length (before .tree)))
+    (e : BuiltExactly y (length y) before after b) where
+  pub few-compared : countOf (figuresOf b) ≤ 3 * 2047
+  unfolding refusalOf
+  few-compared = few y before after b (taken r) e (r .few)
+
+  pub whole-build : {c : ℕ} → c ≡ countOf (figuresOf b) → WholeBuild y (after .tables .previous) (after .tables .next) (after .tree) c
+  unfolding refusalOf
+  whole-build z = rw z (exactly y before after b (taken r) e)
 
 tree-small : (y : List ℕ) → length y ≤ 2048 → length (treeBytes y (length y)) ≤ 512
 unfolding treeBytes

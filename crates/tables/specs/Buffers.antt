@@ -1,11 +1,12 @@
 -- What the contracts of the private functions are written with: the tables and the tree of a string in lent memory.
 use mathlib.Core.Path.{_≡_}
 use mathlib.Core.List.{List}
-use Prim.Native.Nat.{ℕ, _≤_, _<_}
+use Prim.Native.Nat.{ℕ, _+_, _≤_, _<_}
 use lib.ListN.{length, getD}
 use Rattle.suffix.specs.Nearest.{previous, next}
 use Rattle.suffix.specs.Tree.{treeBytes, treeLength}
-use Rattle.build.specs.Built.{comparisons, Figures, finished, halted, refused}
+use Rattle.reuse.specs.Steps.{comparisons}
+use Rattle.build.specs.Built.{Figures, finished, halted, refused}
 
 -- memory for n positions: four tables and a tree, by their lengths
 pub record Room (n p q pm qm t : ℕ) : Type 0 where
@@ -31,6 +32,6 @@ pub record WholeBuild (y p q t : List ℕ) (c : ℕ) : Type 0 where
 
 -- the count of an answer
 abbrev pub countOf : Figures → ℕ
-countOf (finished rows comparisons reach) = comparisons
-countOf (halted rows comparisons reach) = comparisons
+countOf (finished rows equal unequal reach) = equal + unequal
+countOf (halted rows equal unequal reach) = equal + unequal
 countOf (refused number) = 0

@@ -9,7 +9,7 @@ use Rattle.io.specs.Digits.{digits}
 use Rattle.suffix.specs.Ranks.{ranks}
 use Rattle.suffix.specs.Nearest.{previous, next}
 use Rattle.suffix.specs.Tree.{treeBytes}
-use Rattle.build.specs.Built.{comparisons}
+use Rattle.reuse.specs.Steps.{comparisons}
 
 -- the number of decimal digits of n, up to f + 1
 unfoldable pub places : ℕ → ℕ → ℕ

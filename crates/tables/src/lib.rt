@@ -4,7 +4,7 @@ use libc::STDIN_FILENO;
 use libc::STDOUT_FILENO;
 ghost use mathlib.Core.Path.{_≡_};
 ghost use mathlib.Core.List.{[], _∷_};
-ghost use Prim.Native.Nat.{_+_, _≤_, _<_};
+ghost use Prim.Native.Nat.{_+_, _*_, _≤_, _<_};
 ghost use lib.ListN.{length};
 ghost use Rattle.io.specs.Digits.{digits};
 ghost use Rattle.build.specs.Built.{figuresOf};
@@ -144,12 +144,14 @@ fn put_lines(out: &mut [u8], at: usize, letters: &[u8], previous: &[u32], next: 
     end
 }
 
+// Equal and unequal comparisons together.
 fn count(built: Built) -> usize
+    requires { ⌜ countOf (figuresOf built) ≤ 3 * 2047 ⌝ }
     ensures { λ r. ⌜ r ≡ countOf (figuresOf built) ⌝ }
 {
     match built {
-        Built::Finished(report) => report.comparisons,
-        Built::Halted(report) => report.comparisons,
+        Built::Finished(report) => report.equal + report.unequal,
+        Built::Halted(report) => report.equal + report.unequal,
         Built::Refused(_) => 0,
     }
 }

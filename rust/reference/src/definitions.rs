@@ -89,11 +89,13 @@ pub fn pack(brackets: &[bool], n: usize) -> Vec<u8> {
 
 /// The whole answer of a build of `rows` rows, `rows` at most n.
 pub fn build(letters: &[u8], rows: usize) -> Structure {
+    let steps = steps::run(letters, rows);
     Structure {
         figures: Figures {
             finished: rows == letters.len(),
             rows,
-            comparisons: steps::run(letters, rows).comparisons,
+            equal: steps.equal,
+            unequal: steps.unequal,
             reach: reach(letters, rows),
         },
         tables: tables(letters, rows),

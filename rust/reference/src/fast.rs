@@ -3,11 +3,13 @@
 
 use crate::{refusals, Figures, Structure, Tables};
 
-/// The latest scanned pair: how far it reaches and how far apart its positions are.
+/// The latest scanned pair: how far it reaches and how far apart its positions are. And the comparisons
+/// so far that found two letters equal, and unequal.
 struct Window {
     reach: usize,
     shift: usize,
-    comparisons: usize,
+    equal: usize,
+    unequal: usize,
 }
 
 impl Window {
@@ -16,12 +18,13 @@ impl Window {
     fn scan(&mut self, letters: &[u8], l: usize, r: usize, mut m: usize) -> (usize, bool) {
         let mut left_is_smaller = false;
         while r + m < letters.len() {
-            self.comparisons += 1;
             let (left, right) = (letters[l + m], letters[r + m]);
             if left != right {
+                self.unequal += 1;
                 left_is_smaller = left < right;
                 break;
             }
+            self.equal += 1;
             m += 1;
         }
         self.reach = r + m;
@@ -59,7 +62,8 @@ pub fn build(
     let mut window = Window {
         reach: rows.min(1),
         shift: 0,
-        comparisons: 0,
+        equal: 0,
+        unequal: 0,
     };
     for r in 0..rows {
         let (place, matched) = if r == 0 {
@@ -121,14 +125,12 @@ pub fn build(
     previous_match[rows..].fill(0);
     next_match[rows..].fill(0);
 
-    let Window {
-        reach, comparisons, ..
-    } = window;
     Ok(Figures {
         finished: rows == n,
         rows,
-        comparisons,
-        reach,
+        equal: window.equal,
+        unequal: window.unequal,
+        reach: window.reach,
     })
 }
 

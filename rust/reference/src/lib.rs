@@ -1,9 +1,9 @@
 //! A plain Rust reference for the Lyndon structure of a string. It is written from the definitions of
-//! document 01, and of document 02 for the cabinet, and shares no code with the library that it is
-//! compared with.
+//! document 01, and of document 02 for the cabinet and the two counts of comparisons, and shares no code
+//! with the library that it is compared with.
 //!
 //! - [`definitions`]: suffixes, tables, tree, reach and Lyndon words, each as defined;
-//! - [`steps`]: the reuse steps 1 to 4, which define the count of comparisons;
+//! - [`steps`]: the reuse steps 1 to 4, which define the two counts of comparisons;
 //! - [`brackets`]: a tree judged, read and questioned bit by bit;
 //! - [`refusals`]: which refusals apply to an operation's input;
 //! - [`cabinet`]: a file of many trees, written and read;
@@ -44,8 +44,10 @@ pub struct Figures {
     pub finished: bool,
     /// The rows done.
     pub rows: usize,
-    /// The comparisons that the reuse steps make.
-    pub comparisons: usize,
+    /// The comparisons of the reuse steps that find two letters equal.
+    pub equal: usize,
+    /// Those that find them unequal.
+    pub unequal: usize,
     /// The reach after these rows.
     pub reach: usize,
 }

@@ -13,8 +13,10 @@ pub struct Steps {
     pub reach: usize,
     /// d
     pub shift: usize,
-    /// The comparisons of two letters.
-    pub comparisons: usize,
+    /// The comparisons of two letters that find them equal.
+    pub equal: usize,
+    /// The comparisons of two letters that find them unequal.
+    pub unequal: usize,
 }
 
 /// A settled pair (l, r).
@@ -33,7 +35,8 @@ pub fn run(letters: &[u8], rows: usize) -> Steps {
         next_match: vec![0; n],
         reach: 0,
         shift: 0,
-        comparisons: 0,
+        equal: 0,
+        unequal: 0,
     };
     if rows > 0 {
         // Row 0.
@@ -120,11 +123,12 @@ impl Steps {
     fn scan(&mut self, letters: &[u8], l: usize, r: usize, mut m: usize) -> Settled {
         let mut left_is_smaller = false;
         while r + m < letters.len() {
-            self.comparisons += 1;
             if letters[l + m] != letters[r + m] {
+                self.unequal += 1;
                 left_is_smaller = letters[l + m] < letters[r + m];
                 break;
             }
+            self.equal += 1;
             m += 1;
         }
         self.reach = r + m;

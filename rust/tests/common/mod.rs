@@ -174,14 +174,18 @@ pub fn assert_build(letters: &[u8], rows: usize, expected: &Structure) {
         .expect("a build that no refusal applies to");
     let figures = &expected.figures;
     assert_eq!(
-        (built.finished, built.rows, built.comparisons, built.reach),
+        (built.finished, built.rows, built.reach),
+        (figures.finished, figures.rows, figures.reach),
+        "finished, rows, reach"
+    );
+    assert_eq!(
+        (built.equal, built.unequal, built.comparisons()),
         (
-            figures.finished,
-            figures.rows,
-            figures.comparisons,
-            figures.reach
+            figures.equal,
+            figures.unequal,
+            figures.equal + figures.unequal
         ),
-        "finished, rows, comparisons, reach"
+        "equal comparisons, unequal ones, their sum"
     );
     assert_list(
         "previous",
@@ -201,11 +205,9 @@ pub fn assert_build(letters: &[u8], rows: usize, expected: &Structure) {
     );
     assert_list("tree", lent.tree.contents(), &expected.tree);
     if rows > 0 {
-        let bound = 2 * (rows - 1) + (built.reach - 1);
-        assert!(
-            built.comparisons <= bound && built.reach <= n,
-            "the bound on comparisons"
-        );
+        assert!(built.equal <= built.reach - 1, "equal comparisons");
+        assert!(built.unequal <= 2 * (rows - 1), "unequal comparisons");
+        assert!(built.reach <= n, "the reach");
     }
 }
 

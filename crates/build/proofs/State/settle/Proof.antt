@@ -85,5 +85,5 @@ settle-spec =
     (λ c. let s = low (c .before .before .before .before .before) in omega arith)
     returns-3
     (λ c. omega arith)
-    (λ c κs. let s = safe (c .before .before) in (s .before, from-is c .fits, omega arith, omega arith))
+    (λ c κs. let s = safe (c .before .before) in (s .before, from-is c .fits, omega arith, omega arith, omega arith))
     returns-4)
