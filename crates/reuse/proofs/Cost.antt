@@ -55,11 +55,11 @@ entries-new none t i v h e d =
 
 -- ---- the cost
 
--- those of previous and next
+-- those of previous and next together
 abbrev pub settledEntries : ℕ → Tables → ℕ
 settledEntries none t = entries none (t .previous) + entries none (t .next)
 
--- where of so many settled pairs no entry is recorded yet
+-- after these comparisons, where of so many settled pairs no entry is recorded yet
 pub record Cost (none : ℕ) (s : Progress) (t : Tables) (pending : ℕ) : Type 0 where
   pub equal : s .equal < s .reach
   pub unequal : s .unequal ≤ settledEntries none t + pending

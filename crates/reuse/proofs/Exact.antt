@@ -52,15 +52,12 @@ first-row y some =
     n : ℕ
     n = length y
 
-    none0 : previous y 0 ≡ n
-    none0 = none-first y some
-
     none-at : (i : ℕ) → Same i 0 → previousAfter y 1 i ≡ n
-    none-at i (same e) = rw e (previousAfter-in y 1 0 (omega arith) ∙ none0)
+    none-at i (same e) = rw e (previousAfter-in y 1 0 (omega arith) ∙ none-first y some)
     none-at i (other e) = previousAfter-out y 1 i (omega arith)
 
     match-at : (i : ℕ) → Same i 0 → previousMatchAfter y 1 i ≡ 0
-    match-at i (same e) = rw e (previousMatchAfter-in y 1 0 (omega arith) ∙ previousMatch-none y 0 none0)
+    match-at i (same e) = rw e (previousMatchAfter-in y 1 0 (omega arith) ∙ previousMatch-none y 0 (none-first y some))
     match-at i (other e) = previousMatchAfter-out y 1 i (omega arith)
 
 module _ (y : List ℕ) (r : ℕ) (pos : 0 < r) (small : r < length y) (s : BuildState) (D : Done y r s) where

@@ -119,7 +119,7 @@ module _ (g : ℕ → Bool) where
       go (holds e) ih = omega (arith, count-yes n e)
       go (fails e) ih = omega (arith, count-no n e)
 
-  -- one that is not counted
+  -- one is not counted
   pub count-less : (n j : ℕ) → j < n → g j ≡ false → countBelow n g < n
   count-less zero j h e = absurd (omega arith)
   count-less (suc n) j h e = go (same? j n) (test (g n)) (λ w. count-less n j w e)
