@@ -144,20 +144,13 @@ pub struct Built {
     /// The rows done: always the rows asked.
     pub rows: usize,
     /// How often the reuse steps compare two letters in these rows and find them equal: at most
-    /// `reach` - 1, where rows are asked.
+    /// `reach` - 1; 0 where no rows are asked.
     pub equal: usize,
-    /// How often they find them unequal: at most 2 (`rows` - 1), where rows are asked.
+    /// How often they find them unequal: at most 2 (`rows` - 1); 0 where no rows are asked.
     pub unequal: usize,
     /// The greatest of 1 and r + match(l, r) over the pairs l < r < rows with next\[l\] = r or
-    /// previous\[r\] = l; 0 where no rows are asked.
+    /// previous\[r\] = l, never above n; 0 where no rows are asked.
     pub reach: usize,
-}
-
-impl Built {
-    /// How often the reuse steps compare two letters in these rows.
-    pub fn comparisons(&self) -> usize {
-        self.equal + self.unequal
-    }
 }
 
 /// The length in bytes of the tree of `n` positions: ceil(n/4).

@@ -20,6 +20,17 @@ static int failed(const char *what)
     return 1;
 }
 
+/* Whether each member of a build's reply is where the header has it: those of aabaaab are all different. */
+static int members_agree(void)
+{
+    static const uint8_t word[] = {'a', 'a', 'b', 'a', 'a', 'a', 'b'};
+    static uint32_t tables[4][7];
+    static uint8_t brackets[2];
+    BuildReply built = lyndon_build(word, 7, 7, tables[0], 7, tables[1], 7, tables[2], 7, tables[3], 7, brackets, 2);
+    return built.refusal == 0 && built.finished == 1 && built.rows == 7
+        && built.equal == 4 && built.unequal == 8 && built.reach == 6;
+}
+
 /* Whether the tree answers as the tables do. */
 static int tree_agrees(size_t i)
 {
@@ -52,8 +63,12 @@ int main(void)
     size_t i;
     BuildReply built = lyndon_build(letters, N, N, previous, N, next, N, previous_match, N, next_match, N,
                                     tree, TREE_LENGTH);
-    if (built.refusal != 0 || built.finished != 1 || built.rows != N || built.equal != 3 || built.unequal != 3 || built.reach != 6) {
+    if (built.refusal != 0 || built.finished != 1 || built.rows != N || built.equal != 3 || built.unequal != 3
+        || built.reach != 6) {
         return failed("lyndon_build");
+    }
+    if (!members_agree()) {
+        return failed("the members of BuildReply");
     }
     if (lyndon_read(N, tree, TREE_LENGTH, previous_read, N, next_read, N) != 0) {
         return failed("lyndon_read");

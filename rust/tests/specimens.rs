@@ -158,7 +158,7 @@ fn the_end_of_the_string_is_smaller_than_a_letter() {
     }
 }
 
-/// Strings that break lower bounds: reach - 2 on the equal comparisons, and rows - 1 on the unequal ones.
+/// Strings that take more than reach - 2 equal comparisons, and more than rows - 1 unequal ones.
 #[test]
 fn bounds_that_are_too_low() {
     assert_eq!(cost(&whole(b"aa")), (1, 0, 2));

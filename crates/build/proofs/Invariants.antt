@@ -20,7 +20,7 @@ use Rattle.suffix.proofs.Rows.{previousAfter-in}
 use Rattle.suffix.proofs.Levels.{level, level-is, level-suc}
 use Rattle.suffix.proofs.Bytes as bytes
 use Rattle.reuse.specs.Steps.{asked, settled, recordPrevious, recordNext, start, afterRows}
-use Rattle.reuse.proofs.Cost.{entries-most}
+use Rattle.reuse.proofs.Cost.{pairs-most}
 use Rattle.reuse.proofs.Settle.{last-fits, settle-recorded, settle-shifted}
 use Rattle.reuse.proofs.Row.{Sizes, next-sizes, previous-sizes, AtSettled, Done, Holds, at-asked, at-settled, reads-previous}
 use Rattle.reuse.proofs.Exact.{rows-done}
@@ -183,7 +183,7 @@ module _ {y : List ℕ} {rows r : ℕ} {s : State} {t : Tables} {tree : List ℕ
             shift = λ h. settle-recorded small (A .asked) h .0;
             shifted = λ h. settle-shifted small (A .asked) h;
             equal = omega (arith, A .cost .equal);
-            unequal = omega (arith, A .cost .unequal, entries-most (length y) (seen .previous), entries-most (length y) (seen .next), A .sizes .previous, A .sizes .next);
+            unequal = omega (arith, A .cost .unequal, pairs-most (length y) seen, A .sizes .previous, A .sizes .next);
           }
 
   module _ (u : declared.SettledPair)

@@ -19,7 +19,7 @@ use Rattle.suffix.proofs.Reach.{reach-most, reach-least, reach-one}
 use Rattle.reuse.specs.Steps.{BuildState, ended, advances, stateOf, rowStart, row, start, afterRows, equalComparisons, unequalComparisons}
 use Rattle.reuse.specs.Claims.{Exact}
 use Rattle.reuse.proofs.Settle.{Filled, Last, unscanned, scanned, last-lower, last-fits}
-use Rattle.reuse.proofs.Cost.{entries, entries-below, entries-fewer, settledEntries}
+use Rattle.reuse.proofs.Cost.{someEntries, entries-most, entries-less, recordedPairs}
 use Rattle.reuse.proofs.Row.{Sizes, Done, Holds, at-asked, Ended, advances-end}
 
 -- ---- the first row, and a further row
@@ -149,22 +149,22 @@ reach-is y R s h g D = go (D .last)
         pick (inl w) = omega (arith, at-least w, most (omega (arith, P .edge .before, P .high)))
         pick (inr w) = absurd (omega (arith, w .0, w .1, P .edge .before))
 
--- ---- the entries other than none: previous has none at 0 and from R on, next none from R - 1 on
+-- ---- the pairs that are recorded: previous is none at 0 and from R on, next from R - 1 on
 
-entries-few : (y : List ℕ) (R : ℕ) (s : BuildState) → 0 < R → R ≤ length y → Done y R s → settledEntries (length y) (s .tables) ≤ 2 * (R - 1)
-entries-few y R s h g D = omega (arith, few-previous, few-next)
+pairs-few : (y : List ℕ) (R : ℕ) (s : BuildState) → 0 < R → R ≤ length y → Done y R s → recordedPairs (length y) (s .tables) ≤ 2 * (R - 1)
+pairs-few y R s h g D = omega (arith, few-previous, few-next)
   where
     n : ℕ
     n = length y
 
-    few-previous : entries n (s .tables .previous) < R
+    few-previous : someEntries n (s .tables .previous) < R
     few-previous =
-        entries-fewer n (s .tables .previous) R (omega (arith, D .sizes .previous)) (λ k a b. D .previous k (omega (arith, D .sizes .previous)) ∙ previousAfter-out y R k a) 0 h
+        entries-less n (s .tables .previous) R (omega (arith, D .sizes .previous)) (λ k a b. D .previous k (omega (arith, D .sizes .previous)) ∙ previousAfter-out y R k a) 0 h
         (D .previous 0 (omega arith) ∙ previousAfter-in y R 0 h ∙ none-first y (omega arith))
 
-    few-next : entries n (s .tables .next) ≤ R - 1
+    few-next : someEntries n (s .tables .next) ≤ R - 1
     few-next =
-        entries-below n (s .tables .next) (R - 1) (omega (arith, D .sizes .next))
+        entries-most n (s .tables .next) (R - 1) (omega (arith, D .sizes .next))
         (λ k a b. let w : k < n = omega (arith, D .sizes .next) in D .next k w ∙ nextAfter-out y R k (omega (arith, next-at y k w .after)))
 
 -- ---- all of it
@@ -197,7 +197,7 @@ no-rows y =
       unequal = λ h. absurd (omega arith);
       bound = λ h. absurd (omega arith);
       whole = λ h. absurd (omega arith);
-      at-zero = λ h. refl;
+      at-zero = λ h. (refl, refl, refl);
     }
   where
     n : ℕ
@@ -210,7 +210,7 @@ exact y (suc r) g =
     let c : afterRows y (suc r) .progress .reach ≡ reach y (suc r) = reach-is y (suc r) (afterRows y (suc r)) (omega arith) g D in
     let fits : reach y (suc r) ≤ length y = omega (arith, c, last-fits (omega arith) g (D .last)) in
     let equal : equalComparisons y (suc r) < reach y (suc r) = omega (arith, c, D .cost .equal) in
-    let unequal : unequalComparisons y (suc r) ≤ 2 * (suc r - 1) = omega (arith, D .cost .unequal, entries-few y (suc r) (afterRows y (suc r)) (omega arith) g D) in
+    let unequal : unequalComparisons y (suc r) ≤ 2 * (suc r - 1) = omega (arith, D .cost .unequal, pairs-few y (suc r) (afterRows y (suc r)) (omega arith) g D) in
     record {
       tables = tables-are y (suc r) (afterRows y (suc r) .tables) (D .sizes) (D .previous) (D .next) (D .previousMatch) (D .nextMatch);
       reached = c;

@@ -52,18 +52,18 @@ unfolding scan scanFrom reuse settle recordPrevious recordNext climb advance adv
 counts-4-8 = (refl, refl)
 
 -- Bounds that a string breaks: reach - 2 on the equal ones (`aa`, R = 2), R - 1 on the unequal ones (`acb`, R = 3), and R - 1 once on both
--- together (0000100000, R = 6).
+-- together (`aaaabaaaaa`, R = 6).
 abbrev aa : List ℕ
 aa = 0 ∷ 0 ∷ []
 
 abbrev acb : List ℕ
 acb = 0 ∷ 2 ∷ 1 ∷ []
 
-abbrev ten : List ℕ
-ten = 0 ∷ 0 ∷ 0 ∷ 0 ∷ 1 ∷ 0 ∷ 0 ∷ 0 ∷ 0 ∷ 0 ∷ []
+abbrev aaaabaaaaa : List ℕ
+aaaabaaaaa = 0 ∷ 0 ∷ 0 ∷ 0 ∷ 1 ∷ 0 ∷ 0 ∷ 0 ∷ 0 ∷ 0 ∷ []
 
 too-low :
     (ltb (reach aa 2 - 2) (equalComparisons aa 2) ≡ true) × (ltb (3 - 1) (unequalComparisons acb 3) ≡ true)
-    × (ltb (1 * (6 - 1) + (reach ten 6 - 1)) (comparisons ten 6) ≡ true)
+    × (ltb (1 * (6 - 1) + (reach aaaabaaaaa 6 - 1)) (comparisons aaaabaaaaa 6) ≡ true)
 unfolding greatestBelow leastFrom maximumBelow lexLess lcp suffixLess lce previous next isPair pairReach reach scan scanFrom reuse settle recordPrevious recordNext climb advance advances stateOf rowStart row start afterRows
 too-low = (refl, refl, refl)

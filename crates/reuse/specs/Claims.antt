@@ -21,7 +21,7 @@ pub record Exact (y : List ℕ) (R : ℕ) : Type 0 where
   pub bound : 0 < R → comparisons y R ≤ 2 * (R - 1) + (reach y R - 1)
   pub whole : 0 < R → R ≡ length y → comparisons y R ≤ 3 * (length y - 1)
   -- document 01: "For R = 0 comparisons and reach are 0."
-  pub at-zero : R ≡ 0 → comparisons y R ≡ 0
+  pub at-zero : R ≡ 0 → (equalComparisons y R ≡ 0) × (unequalComparisons y R ≡ 0) × (reach y R ≡ 0)
 
 -- "These entries .. are the definitions that demand 3 means": whatever the letters and whatever R
 abbrev pub StepsAreExact : Type 0

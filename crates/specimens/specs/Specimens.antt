@@ -85,6 +85,7 @@ aaaa = 97 ∷ 97 ∷ 97 ∷ 97 ∷ []
 abbrev pub banana : List ℕ
 banana = 98 ∷ 97 ∷ 110 ∷ 97 ∷ 110 ∷ 97 ∷ []
 
+-- of M1 to M8 the answer has the comparisons as T-02 splits them, equal and unequal, and count their sum, which document 01 gives
 abbrev pub table : List Specimen
 table =
     -- "M1 empty, R 0: finished, 0 comparisons, reach 0, no tree bytes."
@@ -122,7 +123,8 @@ table =
     ∷ is (answers aaaa 4) (figures (finished 4 3 0 4))
     ∷ is (count aaaa 4) (number 3)
     ∷ is (tree aaaa 4) (entries (0x55 ∷ []))
-    -- "M7 banana, R 6: as above; next-match 0 3 0 1 0 0, reach 6.": above are the figures of the tables program
+    -- "M7 banana, R 6: as above; next-match 0 3 0 1 0 0, reach 6.": above are the figures of the tables program.
+    -- T-02: "For banana they are 3 and 3."
     ∷ is (previous banana 6) (entries (6 ∷ 6 ∷ 1 ∷ 6 ∷ 3 ∷ 6 ∷ []))
     ∷ is (next banana 6) (entries (1 ∷ 3 ∷ 3 ∷ 5 ∷ 5 ∷ 6 ∷ []))
     ∷ is (next-match banana 6) (entries (0 ∷ 3 ∷ 0 ∷ 1 ∷ 0 ∷ 0 ∷ []))

@@ -2,7 +2,7 @@
 use mathlib.Core.Path.{_≡_, refl, sym, ap, _∙_}
 use mathlib.Core.Bool.{false}
 use mathlib.Core.List.{List, [], _∷_}
-use Prim.Native.Nat.{ℕ, zero, suc, _*_, _≤_, _<_}
+use Prim.Native.Nat.{ℕ, zero, suc, _≤_, _<_}
 use native.Mathlib.Omega.{arith}
 use lib.ListN.{length, getD, take}
 use borrow.Author.Tests.{lt-ltb, le-ltb, eq-eqb}
@@ -20,7 +20,7 @@ use Rattle.reuse.proofs.Laws.{stepsAreExact}
 use Rattle.build.specs.Built.{Lent, lentAfter, figuresOf, refusalOf, answer, lentAtExit, BuiltExactly}
 use Rattle.tables.specs.Text.{headText, lines, tablesText, tooLongText, programText, Rendered}
 use Rattle.writing.specs.Writing.{Wrote}
-use Rattle.tables.specs.Buffers.{Room, WholeBuild, countOf}
+use Rattle.tables.specs.Buffers.{Room, WholeBuild, countOf, mostCompared}
 use Rattle.writing.proofs.Writes.{wrote-then}
 use Rattle.tables.proofs.Sizes.{head-most}
 
@@ -45,11 +45,11 @@ module _ (y : List ℕ) (before after : Lent) (b : Built) (accepted : refusalOf 
       rw (eq-eqb (refusalOf y (length y) before) 0 accepted, eq-eqb (length y) (length y) refl, answer)
       in ap countOf (e .answers) ∙ z
 
-  few : length y ≤ 2048 → countOf (figuresOf b) ≤ 3 * 2047
+  few : length y ≤ 2048 → countOf (figuresOf b) ≤ mostCompared
   few h = go (same? (length y) 0)
     where
-      go : Same (length y) 0 → countOf (figuresOf b) ≤ 3 * 2047
-      go (same z) = omega (arith, counted, stepsAreExact y (length y) (omega arith) .at-zero z)
+      go : Same (length y) 0 → countOf (figuresOf b) ≤ mostCompared
+      go (same z) = let o = stepsAreExact y (length y) (omega arith) .at-zero z in omega (arith, counted, o .0, o .1)
       go (other z) = omega (arith, counted, e .bounded .whole accepted refl (omega arith))
 
   left : after ≡ lentAfter y (length y)
@@ -83,7 +83,7 @@ module _ (y : List ℕ) (before after : Lent) (b : Built) (accepted : refusalOf 
 module _ {y : List ℕ} {before after : Lent} {b : Built}
     (r : Room (length y) (length (before .tables .previous)) (length (before .tables .next)) (length (before .tables .previousMatch)) (length (before .tables .nextMatch)) (length (before .tree)))
     (e : BuiltExactly y (length y) before after b) where
-  pub few-compared : countOf (figuresOf b) ≤ 3 * 2047
+  pub few-compared : countOf (figuresOf b) ≤ mostCompared
   unfolding refusalOf
   few-compared = few y before after b (taken r) e (r .few)
 

@@ -1,7 +1,7 @@
 -- What the contracts of the private functions are written with: the tables and the tree of a string in lent memory.
 use mathlib.Core.Path.{_≡_}
 use mathlib.Core.List.{List}
-use Prim.Native.Nat.{ℕ, _+_, _≤_, _<_}
+use Prim.Native.Nat.{ℕ, _+_, _*_, _≤_, _<_}
 use lib.ListN.{length, getD}
 use Rattle.suffix.specs.Nearest.{previous, next}
 use Rattle.suffix.specs.Tree.{treeBytes, treeLength}
@@ -30,8 +30,12 @@ pub record WholeBuild (y p q t : List ℕ) (c : ℕ) : Type 0 where
   pub tree : t ≡ treeBytes y (length y)
   pub count : c ≡ comparisons y (length y)
 
--- the count of an answer
+-- the count of an answer: its comparisons, equal and unequal
 abbrev pub countOf : Figures → ℕ
 countOf (finished rows equal unequal reach) = equal + unequal
 countOf (halted rows equal unequal reach) = equal + unequal
 countOf (refused number) = 0
+
+-- "a whole build takes at most 3 (n - 1)" comparisons, and n is at most 2,048 here
+abbrev pub mostCompared : ℕ
+mostCompared = 3 * 2047

@@ -4,13 +4,13 @@ use libc::STDIN_FILENO;
 use libc::STDOUT_FILENO;
 ghost use mathlib.Core.Path.{_≡_};
 ghost use mathlib.Core.List.{[], _∷_};
-ghost use Prim.Native.Nat.{_+_, _*_, _≤_, _<_};
+ghost use Prim.Native.Nat.{_+_, _≤_, _<_};
 ghost use lib.ListN.{length};
 ghost use Rattle.io.specs.Digits.{digits};
 ghost use Rattle.build.specs.Built.{figuresOf};
 ghost use Rattle.tables.specs.Text.{decimal, hexes, treeText, field, orDash, figure, lines, lineText, headText, tablesText, Rendered};
 ghost use Rattle.writing.specs.Writing.{Wrote};
-ghost use Rattle.tables.specs.Buffers.{Room, Nearests, WholeBuild, countOf};
+ghost use Rattle.tables.specs.Buffers.{Room, Nearests, WholeBuild, countOf, mostCompared};
 
 fn wide(x: u8) -> u64
     ensures { λ r. ⌜ r ≡ x ⌝ }
@@ -146,7 +146,7 @@ fn put_lines(out: &mut [u8], at: usize, letters: &[u8], previous: &[u32], next: 
 
 // Equal and unequal comparisons together.
 fn count(built: Built) -> usize
-    requires { ⌜ countOf (figuresOf built) ≤ 3 * 2047 ⌝ }
+    requires { ⌜ countOf (figuresOf built) ≤ mostCompared ⌝ }
     ensures { λ r. ⌜ r ≡ countOf (figuresOf built) ⌝ }
 {
     match built {

@@ -1,4 +1,4 @@
--- `tables::count` meets its contract: the answer is the case that it is matched as.
+-- `tables::count` meets its contract: the answer is the case that it is matched as, and the sum fits.
 use mathlib.Core.Path.{sym, ap}
 use Prim.Native.Nat.{ℕ}
 use native.Mathlib.Omega.{arith}
