@@ -1,7 +1,7 @@
 -- What the contracts of the private functions are written with: the tables and the tree of a string in lent memory.
 use mathlib.Core.Path.{_≡_}
 use mathlib.Core.List.{List}
-use Prim.Native.Nat.{ℕ, _+_, _*_, _≤_, _<_}
+use Prim.Native.Nat.{ℕ, _+_, _-_, _*_, _≤_, _<_}
 use lib.ListN.{length, getD}
 use Rattle.suffix.specs.Nearest.{previous, next}
 use Rattle.suffix.specs.Tree.{treeBytes, treeLength}
@@ -38,4 +38,4 @@ countOf (refused number) = 0
 
 -- "a whole build takes at most 3 (n - 1)" comparisons, and n is at most 2,048 here
 abbrev pub mostCompared : ℕ
-mostCompared = 3 * 2047
+mostCompared = 3 * (2048 - 1)
