@@ -1,4 +1,4 @@
 // The tables program, for all 256 byte values in order.
 fn main() {
-    tables::run();
+    tables_text::run();
 }

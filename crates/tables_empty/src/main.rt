@@ -1,4 +1,4 @@
 // The tables program, for no letters.
 fn main() {
-    tables::run();
+    tables_text::run();
 }

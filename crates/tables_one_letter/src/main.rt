@@ -1,4 +1,4 @@
 // The tables program, for one letter: byte 10.
 fn main() {
-    tables::run();
+    tables_text::run();
 }

@@ -1,4 +1,4 @@
 // The tables program, for 2,049 letters, which are too many.
 fn main() {
-    tables::run();
+    tables_text::run();
 }

@@ -1,4 +1,0 @@
-// The tables program, for the six bytes banana.
-fn main() {
-    tables::run();
-}

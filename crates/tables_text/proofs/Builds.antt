@@ -1,0 +1,133 @@
+-- A whole build is not refused, and what it answers and leaves makes the program's text.
+use mathlib.Core.Path.{_≡_, refl, sym, ap, _∙_}
+use mathlib.Core.Bool.{false}
+use mathlib.Core.List.{List, [], _∷_}
+use Prim.Native.Nat.{ℕ, zero, suc, _≤_, _<_}
+use native.Mathlib.Omega.{arith}
+use lib.ListN.{length, getD, take}
+use borrow.Author.Tests.{lt-ltb, le-ltb, eq-eqb}
+use Rattle.suffix.specs.Search.{tabulate}
+use Rattle.suffix.specs.Nearest.{previous, next}
+use Rattle.suffix.specs.Tree.{treeBytes, treeLength, byteOf, treeAfter}
+use Rattle.suffix.proofs.Cases.{Same, same, other, same?}
+use Rattle.suffix.proofs.Search.{tabulate-length, tabulate-entry}
+use Rattle.suffix.proofs.Laws.{allRowsGiveAllEntries}
+use Rattle.refusal.specs.Numbers.{lowest, lowestFrom}
+use Rattle.refusal.specs.Conditions.{buildRefusal}
+use Rattle.build.specs.declared.Built.{Built}
+use Rattle.reuse.specs.Steps.{comparisons}
+use Rattle.reuse.proofs.Laws.{stepsAreExact}
+use Rattle.build.specs.Built.{Lent, lentAfter, figuresOf, refusalOf, answer, lentAtExit, BuiltExactly}
+use Rattle.tables_text.specs.Text.{headText, lines, tablesText, tooLongText, programText, Rendered}
+use Rattle.writing.specs.Writing.{Wrote}
+use Rattle.tables_text.specs.Buffers.{Room, WholeBuild, countOf, mostCompared}
+use Rattle.writing.proofs.Writes.{wrote-then}
+use Rattle.tables_text.proofs.Sizes.{head-most}
+
+taken : {n p q pm qm t : ℕ} → Room n p q pm qm t → buildRefusal n n p q pm qm t ≡ 0
+unfolding buildRefusal lowest lowestFrom
+taken {n} {p} {q} {pm} {qm} {t} r =
+    rw (
+      le-ltb 1000000 n (omega (arith, r .few)),
+      eq-eqb p n (r .previous),
+      eq-eqb q n (r .next),
+      eq-eqb pm n (r .previousMatch),
+      eq-eqb qm n (r .nextMatch),
+      eq-eqb t (treeLength n) (r .tree),
+      le-ltb n n (omega arith),
+    )
+
+module _ (y : List ℕ) (before after : Lent) (b : Built) (accepted : refusalOf y (length y) before ≡ 0) (e : BuiltExactly y (length y) before after b) where
+  counted : countOf (figuresOf b) ≡ comparisons y (length y)
+  unfolding answer
+  counted =
+      let z : countOf (answer y (length y) before) ≡ comparisons y (length y) =
+      rw (eq-eqb (refusalOf y (length y) before) 0 accepted, eq-eqb (length y) (length y) refl, answer)
+      in ap countOf (e .answers) ∙ z
+
+  few : length y ≤ 2048 → countOf (figuresOf b) ≤ mostCompared
+  few h = go (same? (length y) 0)
+    where
+      go : Same (length y) 0 → countOf (figuresOf b) ≤ mostCompared
+      go (same z) = let o = stepsAreExact y (length y) (omega arith) .at-zero z in omega (arith, counted, o .0, o .1)
+      go (other z) = omega (arith, counted, e .bounded .whole accepted refl (omega arith))
+
+  left : after ≡ lentAfter y (length y)
+  unfolding lentAtExit
+  left = e .leaves ∙ rw (eq-eqb (refusalOf y (length y) before) 0 accepted, lentAtExit)
+
+  previous-is : after .tables .previous ≡ tabulate (length y) (previous y)
+  unfolding lentAfter
+  previous-is = ap (λ (l : Lent). l .tables .previous) left ∙ ap (λ t. t .previous) (allRowsGiveAllEntries y)
+
+  next-is : after .tables .next ≡ tabulate (length y) (next y)
+  unfolding lentAfter
+  next-is = ap (λ (l : Lent). l .tables .next) left ∙ ap (λ t. t .next) (allRowsGiveAllEntries y)
+
+  pub exactly : WholeBuild y (after .tables .previous) (after .tables .next) (after .tree) (countOf (figuresOf b))
+  unfolding lentAfter
+  exactly =
+      record {
+        nearests =
+            record {
+              previousLength = ap length previous-is ∙ tabulate-length (previous y) (length y);
+              nextLength = ap length next-is ∙ tabulate-length (next y) (length y);
+              previousAt = λ k h. ap (λ (l : List ℕ). getD l k 0) previous-is ∙ tabulate-entry (previous y) (length y) k h;
+              nextAt = λ k h. ap (λ (l : List ℕ). getD l k 0) next-is ∙ tabulate-entry (next y) (length y) k h;
+            };
+        tree = ap (λ (l : Lent). l .tree) left;
+        count = counted;
+      }
+
+-- where the memory has room
+module _ {y : List ℕ} {before after : Lent} {b : Built}
+    (r : Room (length y) (length (before .tables .previous)) (length (before .tables .next)) (length (before .tables .previousMatch)) (length (before .tables .nextMatch)) (length (before .tree)))
+    (e : BuiltExactly y (length y) before after b) where
+  pub few-compared : countOf (figuresOf b) ≤ mostCompared
+  unfolding refusalOf
+  few-compared = few y before after b (taken r) e (r .few)
+
+  pub whole-build : {c : ℕ} → c ≡ countOf (figuresOf b) → WholeBuild y (after .tables .previous) (after .tables .next) (after .tree) c
+  unfolding refusalOf
+  whole-build z = rw z (exactly y before after b (taken r) e)
+
+tree-small : (y : List ℕ) → length y ≤ 2048 → length (treeBytes y (length y)) ≤ 512
+unfolding treeBytes
+tree-small y h = let z = tabulate-length (byteOf (λ k. getD (treeAfter y (length y)) k false)) (treeLength (length y)) in omega arith
+
+pub head-fits : {y p q t : List ℕ} {c : ℕ} → WholeBuild y p q t c → length y ≤ 2048 → length (headText (length y) c t) ≤ 1100
+head-fits {y} {p} {q} {t} {c} w h = head-most (length y) c t (omega (arith, ap length (w .tree), tree-small y h))
+
+pub wrote-tables :
+    {y p q t u v w : List ℕ} {c x z : ℕ}
+    → WholeBuild y p q t c
+    → Wrote u v (headText (length y) c t) 0 x
+    → Wrote v w (lines y (length y)) x z
+    → Wrote u w (tablesText y) 0 z
+unfolding tablesText
+wrote-tables b h l = wrote-then (rw (b .count, b .tree) at h) l
+
+text-long : (y : List ℕ) → 2048 < length y → programText y ≡ tooLongText
+unfolding programText
+text-long y h = rw (lt-ltb 2048 (length y) h)
+
+text-tables : (y : List ℕ) → length y ≤ 2048 → programText y ≡ tablesText y
+unfolding programText
+text-tables y h = rw (le-ltb 2048 (length y) h)
+
+rendered : {y a b t : List ℕ} {r : ℕ} → programText y ≡ t → Wrote a b t 0 r → Rendered y a b r
+rendered e w = record { size = omega (arith, w .size, ap length e); text = w .text ∙ sym e; rest = w .rest }
+
+pub rendered-long : (y : List ℕ) → 2048 < length y → {a b : List ℕ} {r : ℕ} → Wrote a b tooLongText 0 r → Rendered y a b r
+rendered-long y h w = rendered (text-long y h) w
+
+pub rendered-tables : (y : List ℕ) → length y ≤ 2048 → {a b : List ℕ} {r : ℕ} → Wrote a b (tablesText y) 0 r → Rendered y a b r
+rendered-tables y h w = rendered (text-tables y h) w
+
+take-fits : (r : ℕ) (l : List ℕ) → length (take r l) ≡ r → r ≤ length l
+take-fits zero l e = omega arith
+take-fits (suc r) [] e = absurd (omega arith)
+take-fits (suc r) (x ∷ l) e = let h : r ≤ length l = take-fits r l (omega arith) in omega arith
+
+pub rendered-fits : {y before out : List ℕ} {r : ℕ} → Rendered y before out r → r ≤ length out
+rendered-fits {y} {before} {out} {r} w = take-fits r out (omega (arith, ap length (w .text), w .size))

@@ -1,0 +1,31 @@
+-- `tables_text::build_all` meets its contract: the build is not refused, and its counts are small.
+use borrow.Author.Needs.{needs}
+use Rattle.tables_text.proofs.Builds.{few-compared, whole-build}
+use Rattle.tables_text.proofs.build_all.Statement.{statement}
+use Rattle.tables_text.proofs.build_all.Tie as tie
+
+-- the way back: the build, and the start
+abbrev built : tie.After-slice-known10 → tie.After-build
+built d = d .before .before .before .before .before .before .before .before .before .before
+
+abbrev start : tie.After-build → tie.Start
+start b = b .before .before .before .before .before .before .before .before .before .before .before .before
+
+count-requires : tie.Need-count-requires
+count-requires c κs = let b = built c in few-compared (start b .pre) (b .build .ensures)
+
+returns : tie.Need-returns
+returns c = let b = built (c .before) in whole-build (start b .pre) (b .build .ensures) (c .count .ensures)
+
+pub build-all-spec : {M : Type 1} → statement M
+build-all-spec =
+    tie.close
+    (tie.spec
+    (λ c κs. search needs)
+    count-requires
+    (λ c. search needs)
+    (λ c. search needs)
+    (λ c. search needs)
+    (λ c. search needs)
+    (λ c. search needs)
+    returns)
