@@ -3,13 +3,18 @@
  * A string has n letters of one byte each, n from 0 to 1,000,000. Letters compare by their unsigned value. A proper prefix is
  * smaller than the longer string. Positions count from 0. 'None' is written n.
  *
+ *   match(i, j)        the number of leading letters that the suffixes at i and j share
  *   previous[i]        the greatest j < i whose suffix is smaller than the suffix at i
  *   next[i]            the least j > i whose suffix is smaller than the suffix at i
- *   previous_match[i]  the number of leading letters that the suffixes at previous[i] and i share; 0 where previous[i] is none
- *   next_match[i]      the same for i and next[i]
+ *   previous_match[i]  match(previous[i], i); 0 where previous[i] is none
+ *   next_match[i]      match(i, next[i]); 0 where next[i] is none
  *
  * The tree has 2n bits, an opening (1) and a closing (0) for each position. Position i hangs under previous[i], or is a root.
  * Bit k is in byte k / 8 with weight 2 to the power k mod 8. The tree fills ceil(n / 4) bytes, whose spare bits are 0.
+ *
+ * The counts of comparisons in a build's reply are those of the reuse steps: row by row from position 0 on, two letters are
+ * compared only where a match cannot be copied from one that an earlier row recorded. docs/STEPS.md of the repository has them
+ * step by step.
  *
  * A cabinet is a file of many trees. Each number in it has 32 bits, the lowest byte first:
  *
@@ -18,29 +23,19 @@
  *   for each entry the place of its tree from the file's first byte, and its letter count n
  *   the trees, in the order of their entries and without gaps
  *
- * No caller has to test anything first: each function takes every value of every number and every length, and answers with a
- * refusal where the rules ask for one. A refusal is one of
+ * Refusals. No caller has to test anything first: each function takes every value of every number and every length, and answers
+ * with a refusal where the rules ask for one, else with 0. Where several apply, the lowest number is returned, except by the
+ * two functions of a cabinet, which test in the order given at each. A refusal writes nothing to the lent memory.
  *
- *   1  n above 1,000,000; writing a cabinet: a letter count above 1,000,000
- *   2  a lent table not exactly n entries long
- *   3  the tree not exactly ceil(n / 4) bytes; writing a cabinet: the trees or the buffer not as many bytes as the counts ask for
- *   4  more rows asked than n
- *   5  a position not below n; reading a cabinet: an entry not below the number of entries
- *   6  a spare bit of the tree is 1
- *   7  some first bits of the 2n hold more closings than openings
- *   8  no such place, but not all brackets are closed
- *   9  a cabinet file under 8 bytes or with another mark than LYN1
- *  10  a cabinet with more than 64 entries
- *  11  a cabinet file whose contents are cut short, with a place that is not the end of what comes before it, with bytes missing or
- *      left over at the end, or with a letter count above 1,000,000
+ * Memory. Each list passes as a pointer and then its length in entries, and the pointer points to so many entries. A pointer is
+ * never null, not even where the length is 0: the functions take references of the language they are written in, which are
+ * never null, and what is proved of them is proved of references. Where a list is empty, any other pointer will do, as that of
+ * a variable. Lists that are written do not overlap each other or any other list of the same call. No function keeps a pointer,
+ * allocates memory or changes anything but the lists it is lent, so calls from several threads need no lock.
  *
- * Where several apply, the lowest number is returned, except by the two functions of a cabinet, which test in the order given at
- * each. 0 means: not refused. A refusal writes nothing to the lent memory.
- *
- * Each list passes as a pointer and then its length in entries. A pointer is not null, also where the length is 0, and it points to
- * as many entries as the length says. Lists that are written do not overlap each other or any other list of the same call.
- * No function keeps a pointer, allocates memory or changes anything but the lists it is lent, so calls from several threads need no
- * lock.
+ * One position or many. A question (lyndon_previous, lyndon_next, lyndon_place) judges the whole tree each time, which takes
+ * some 0.1 to 0.3 ms at 1,000,000 positions; lyndon_read gives all entries in 2 to 9 ms. For one position ask; for some dozens
+ * or more read once, or build.
  */
 #ifndef LYNDON_H
 #define LYNDON_H
@@ -52,8 +47,42 @@
 extern "C" {
 #endif
 
+/* The version of this header: it rises with every change of a structure or a function. A program whose LYNDON_VERSION is not what
+ * lyndon_version() returns was compiled against another header than the archive's, and is to be compiled again. */
+#define LYNDON_VERSION 1
+
+/* The version of the archive. */
+uint32_t lyndon_version(void);
+
+/* The most letters of a string, and the most entries of a cabinet. */
+#define LYNDON_MAX_LETTERS 1000000
+#define LYNDON_MAX_ENTRIES 64
+
+/* The length in bytes of the tree of n positions, ceil(n / 4), and of a cabinet file of so many entries, whose trees have so many
+ * bytes in all. Of constants they are constants. n is evaluated twice. */
+#define LYNDON_TREE_BYTES(n) ((n) / 4 + ((n) % 4 != 0))
+#define LYNDON_CABINET_BYTES(entries, trees_length) (8 + 8 * (entries) + (trees_length))
+
+/* The refusals. */
+enum {
+    LYNDON_TOO_LONG = 1,          /* n above 1,000,000; writing a cabinet: a letter count above 1,000,000 */
+    LYNDON_TABLE_LENGTH = 2,      /* a lent table not exactly n entries long */
+    LYNDON_TREE_LENGTH = 3,       /* the tree not exactly ceil(n / 4) bytes; writing a cabinet: the trees or the buffer not as many
+                                     bytes as the counts ask for */
+    LYNDON_TOO_MANY_ROWS = 4,     /* more rows asked than n */
+    LYNDON_POSITION_OUTSIDE = 5,  /* a position not below n; reading a cabinet: an entry not below the number of entries */
+    LYNDON_SPARE_BIT_SET = 6,     /* a spare bit of the tree is 1 */
+    LYNDON_CLOSED_TOO_EARLY = 7,  /* some first bits of the 2n hold more closings than openings */
+    LYNDON_LEFT_OPEN = 8,         /* no such place, but not all brackets are closed */
+    LYNDON_NOT_MARKED = 9,        /* a cabinet file under 8 bytes or with another mark than LYN1 */
+    LYNDON_TOO_MANY_ENTRIES = 10, /* a cabinet with more than 64 entries */
+    LYNDON_WRONG_CONTENTS = 11    /* a cabinet file whose contents are cut short, with a place that is not the end of what comes
+                                     before it, with bytes missing or left over at the end, or with a letter count above
+                                     1,000,000 */
+};
+
 /* The answer of lyndon_build. Where it is refused, every member but `refusal` is 0. */
-typedef struct BuildReply {
+typedef struct LyndonBuildReply {
     uint32_t refusal;  /* 0, or 1 to 4 */
     uint32_t finished; /* 1 where rows = n, 0 where the build is halted before */
     size_t rows;       /* the rows done: always the rows asked */
@@ -62,28 +91,28 @@ typedef struct BuildReply {
     size_t unequal;    /* those that find them unequal: 0 where rows = 0, else at most 2 * (rows - 1) */
     size_t reach;      /* the greatest of 1 and r + match(l, r) over the pairs l < r < rows with next[l] = r or previous[r] = l;
                           0 where rows = 0; never above n */
-} BuildReply;
+} LyndonBuildReply;
 
 /* The answer to a question put to a tree. */
-typedef struct Reply {
+typedef struct LyndonReply {
     uint32_t refusal; /* 0, or 1, 3, 5, 6, 7, 8 */
     size_t value;     /* the answer; 0 where refused */
-} Reply;
+} LyndonReply;
 
 /* A part of the caller's string. */
-typedef struct PartReply {
+typedef struct LyndonPartReply {
     uint32_t refusal; /* 0, or 1, 5 */
     size_t start;     /* where the part starts; 0 where refused */
     size_t length;    /* its length; 0 where refused */
-} PartReply;
+} LyndonPartReply;
 
 /* A tree in a cabinet file. */
-typedef struct CabinetReply {
+typedef struct LyndonCabinetReply {
     uint32_t refusal; /* 0, or 5 to 11 */
     uint32_t letters; /* the tree's letter count n; 0 where refused */
     size_t start;     /* where the tree starts in the file; 0 where refused */
     size_t length;    /* its length in bytes; 0 where refused */
-} CabinetReply;
+} LyndonCabinetReply;
 
 /* Builds the first `rows` rows of the structure of `letters`; n is letters_length.
  *
@@ -95,12 +124,12 @@ typedef struct CabinetReply {
  *   - for i >= rows, previous and next hold n, and both match tables 0;
  *   - the first 2 * rows bits of the tree are the tree of the positions 0 to rows - 1, and all other bits are 0.
  * Where rows = n these are the tables and the tree of the whole string. */
-BuildReply lyndon_build(const uint8_t *letters, size_t letters_length, size_t rows,
-                        uint32_t *previous, size_t previous_length,
-                        uint32_t *next, size_t next_length,
-                        uint32_t *previous_match, size_t previous_match_length,
-                        uint32_t *next_match, size_t next_match_length,
-                        uint8_t *tree, size_t tree_length);
+LyndonBuildReply lyndon_build(const uint8_t *letters, size_t letters_length, size_t rows,
+                              uint32_t *previous, size_t previous_length,
+                              uint32_t *next, size_t next_length,
+                              uint32_t *previous_match, size_t previous_match_length,
+                              uint32_t *next_match, size_t next_match_length,
+                              uint8_t *tree, size_t tree_length);
 
 /* Reads the tree of n positions back into the tables `previous` and `next`. Returns the refusal, or 0.
  *
@@ -113,20 +142,20 @@ uint32_t lyndon_read(size_t n, const uint8_t *tree, size_t tree_length,
 
 /* previous[position] of the tree of n positions, n for none.
  * Refusals: 1, 3, 5, 6, 7, 8. Memory: nothing is written. */
-Reply lyndon_previous(size_t n, const uint8_t *tree, size_t tree_length, size_t position);
+LyndonReply lyndon_previous(size_t n, const uint8_t *tree, size_t tree_length, size_t position);
 
 /* next[position] of the tree of n positions, n for none.
  * Refusals: 1, 3, 5, 6, 7, 8. Memory: nothing is written. */
-Reply lyndon_next(size_t n, const uint8_t *tree, size_t tree_length, size_t position);
+LyndonReply lyndon_next(size_t n, const uint8_t *tree, size_t tree_length, size_t position);
 
 /* The bit place of the opening of `position` in the tree of n positions.
  * Refusals: 1, 3, 5, 6, 7, 8. Memory: nothing is written. */
-Reply lyndon_place(size_t n, const uint8_t *tree, size_t tree_length, size_t position);
+LyndonReply lyndon_place(size_t n, const uint8_t *tree, size_t tree_length, size_t position);
 
 /* The longest Lyndon word that starts at `position`: it starts there, and its length is next[position] - position.
  * n is letters_length.
  * Refusals: 1, 5; the part is then the empty one at the string's start. Memory: nothing is written. */
-PartReply lyndon_word(const uint8_t *letters, size_t letters_length, size_t position);
+LyndonPartReply lyndon_word(const uint8_t *letters, size_t letters_length, size_t position);
 
 /* Writes the cabinet file of the trees with the letter counts `counts`. `trees` holds them end to end. `file` has exactly the
  * file's length: 8 bytes, and for each count n 8 and ceil(n / 4) bytes. Returns the refusal, or 0.
@@ -143,7 +172,7 @@ uint32_t lyndon_cabinet_write(const uint32_t *counts, size_t counts_length,
  *
  * Refusals, in the order in which they are tested: 9, 10, 11, 5, then 6, 7, 8 tree by tree, so that the first faulty tree decides.
  * The part is then the empty one at the file's start. Memory: nothing is written. */
-CabinetReply lyndon_cabinet_read(const uint8_t *file, size_t file_length, size_t entry);
+LyndonCabinetReply lyndon_cabinet_read(const uint8_t *file, size_t file_length, size_t entry);
 
 #ifdef __cplusplus
 }

@@ -1,7 +1,7 @@
 //! Links `liblyndon.a`, which `rt staticlib lyndon` writes.
 
 use std::env;
-use std::path::PathBuf;
+use std::path::{absolute, PathBuf};
 use std::process::exit;
 
 const DIRECTORY: &str = "LYNDON_LIB_DIR";
@@ -16,9 +16,12 @@ fn main() {
     println!("cargo:rerun-if-changed={}", archive.display());
 
     let Ok(archive) = archive.canonicalize() else {
-        eprintln!("{} is missing.", archive.display());
+        // Cargo runs this in the package's directory, so that is where a relative path starts.
+        let missing = absolute(&archive).unwrap_or(archive);
+        eprintln!("{} is missing.", missing.display());
         eprintln!("Run `rt staticlib lyndon` at the repository's root, which writes target/staticlib/liblyndon.a,");
-        eprintln!("or set {DIRECTORY} to the directory that holds liblyndon.a.");
+        eprintln!("or set {DIRECTORY} to the directory that holds liblyndon.a; a relative one starts at the directory");
+        eprintln!("of this package.");
         exit(1);
     };
     let directory = archive.parent().expect("a file has a directory");

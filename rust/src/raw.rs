@@ -1,6 +1,9 @@
 //! The functions of `liblyndon.a` as they are exported, and the build over slices. A slice passes as a pointer and a length.
 //! `include/lyndon.h` declares the same.
 
+/// The version of these declarations, `LYNDON_VERSION` in the header. [`lyndon_version`] returns that of the archive.
+pub const VERSION: u32 = 1;
+
 /// The answer of [`lyndon_build`].
 #[repr(C)]
 #[derive(Debug, Clone, Copy, PartialEq, Eq)]
@@ -86,6 +89,13 @@ pub fn build(
 }
 
 extern "C" {
+    /// The version of the archive's structures and functions.
+    ///
+    /// # Safety
+    ///
+    /// It may always be called.
+    pub fn lyndon_version() -> u32;
+
     /// Builds the first `rows` rows.
     ///
     /// # Safety

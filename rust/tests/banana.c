@@ -5,9 +5,9 @@
 #include <string.h>
 
 #define N 6
-#define TREE_LENGTH ((N + 3) / 4)
+#define TREE_LENGTH LYNDON_TREE_BYTES(N)
 #define ENTRIES 2
-#define FILE_LENGTH (8 + 8 * ENTRIES + TREE_LENGTH)
+#define FILE_LENGTH LYNDON_CABINET_BYTES(ENTRIES, TREE_LENGTH)
 
 static const uint8_t letters[N] = {'b', 'a', 'n', 'a', 'n', 'a'};
 static uint32_t previous[N], next[N], previous_match[N], next_match[N];
@@ -26,7 +26,7 @@ static int members_agree(void)
     static const uint8_t word[] = {'a', 'a', 'b', 'a', 'a', 'a', 'b'};
     static uint32_t tables[4][7];
     static uint8_t brackets[2];
-    BuildReply built = lyndon_build(word, 7, 7, tables[0], 7, tables[1], 7, tables[2], 7, tables[3], 7, brackets, 2);
+    LyndonBuildReply built = lyndon_build(word, 7, 7, tables[0], 7, tables[1], 7, tables[2], 7, tables[3], 7, brackets, 2);
     return built.refusal == 0 && built.finished == 1 && built.rows == 7
         && built.equal == 4 && built.unequal == 8 && built.reach == 6;
 }
@@ -34,9 +34,9 @@ static int members_agree(void)
 /* Whether the tree answers as the tables do. */
 static int tree_agrees(size_t i)
 {
-    Reply p = lyndon_previous(N, tree, TREE_LENGTH, i);
-    Reply x = lyndon_next(N, tree, TREE_LENGTH, i);
-    Reply k = lyndon_place(N, tree, TREE_LENGTH, i);
+    LyndonReply p = lyndon_previous(N, tree, TREE_LENGTH, i);
+    LyndonReply x = lyndon_next(N, tree, TREE_LENGTH, i);
+    LyndonReply k = lyndon_place(N, tree, TREE_LENGTH, i);
     return previous_read[i] == previous[i] && next_read[i] == next[i]
         && p.refusal == 0 && p.value == previous[i]
         && x.refusal == 0 && x.value == next[i]
@@ -48,32 +48,35 @@ static int cabinet_agrees(void)
 {
     static const uint32_t counts[ENTRIES] = {0, N};
     uint32_t refusal = lyndon_cabinet_write(counts, ENTRIES, tree, TREE_LENGTH, file, FILE_LENGTH);
-    CabinetReply empty = lyndon_cabinet_read(file, FILE_LENGTH, 0);
-    CabinetReply banana = lyndon_cabinet_read(file, FILE_LENGTH, 1);
-    CabinetReply none = lyndon_cabinet_read(file, FILE_LENGTH, ENTRIES);
+    LyndonCabinetReply empty = lyndon_cabinet_read(file, FILE_LENGTH, 0);
+    LyndonCabinetReply banana = lyndon_cabinet_read(file, FILE_LENGTH, 1);
+    LyndonCabinetReply none = lyndon_cabinet_read(file, FILE_LENGTH, ENTRIES);
     return refusal == 0
         && empty.refusal == 0 && empty.letters == 0 && empty.length == 0
         && banana.refusal == 0 && banana.letters == N && banana.length == TREE_LENGTH
         && memcmp(file + banana.start, tree, TREE_LENGTH) == 0
-        && none.refusal == 5 && none.letters == 0 && none.start == 0 && none.length == 0;
+        && none.refusal == LYNDON_POSITION_OUTSIDE && none.letters == 0 && none.start == 0 && none.length == 0;
 }
 
 int main(void)
 {
     size_t i;
-    BuildReply built = lyndon_build(letters, N, N, previous, N, next, N, previous_match, N, next_match, N,
-                                    tree, TREE_LENGTH);
+    LyndonBuildReply built = lyndon_build(letters, N, N, previous, N, next, N, previous_match, N, next_match, N,
+                                          tree, TREE_LENGTH);
+    if (lyndon_version() != LYNDON_VERSION) {
+        return failed("the versions of header and archive");
+    }
     if (built.refusal != 0 || built.finished != 1 || built.rows != N || built.equal != 3 || built.unequal != 3
         || built.reach != 6) {
         return failed("lyndon_build");
     }
     if (!members_agree()) {
-        return failed("the members of BuildReply");
+        return failed("the members of LyndonBuildReply");
     }
     if (lyndon_read(N, tree, TREE_LENGTH, previous_read, N, next_read, N) != 0) {
         return failed("lyndon_read");
     }
-    if (lyndon_previous(N, tree, TREE_LENGTH, N).refusal != 5) {
+    if (lyndon_previous(N, tree, TREE_LENGTH, N).refusal != LYNDON_POSITION_OUTSIDE) {
         return failed("a position outside the tree");
     }
     if (!cabinet_agrees()) {
@@ -86,7 +89,7 @@ int main(void)
     }
     printf("\n");
     for (i = 0; i < N; i++) {
-        PartReply word = lyndon_word(letters, N, i);
+        LyndonPartReply word = lyndon_word(letters, N, i);
         if (!tree_agrees(i)) {
             return failed("the tree and the tables differ");
         }

@@ -1,18 +1,19 @@
-//! A C program that includes the header and links the archive.
+//! C and C++ programs that include the header and link the archive.
 
-use std::path::Path;
+use std::fmt::Write;
+use std::path::{Path, PathBuf};
 use std::process::{Command, Output};
 
-/// What the tables program of document 01 prints for banana.
-const TABLES: &str = "\
-length 6 comparisons 6 tree cd04
-0 - 1 1
-1 - 3 2
-2 1 3 1
-3 - 5 2
-4 3 5 1
-5 - 6 1
-";
+use lyndon::{raw, Refusal};
+
+/// What the tables program prints for banana.
+const TABLES: &str = include_str!("../../crates/tables/stdout");
+
+/// Each published standard of the two languages, by the names that older compilers know too.
+const C_STANDARDS: [&str; 5] = ["c89", "c99", "c11", "c17", "c2x"];
+const CPP_STANDARDS: [&str; 7] = [
+    "c++98", "c++03", "c++11", "c++14", "c++17", "c++20", "c++2b",
+];
 
 /// Runs a command to its end and asserts that it succeeds.
 fn run(command: &mut Command) -> Output {
@@ -28,19 +29,81 @@ fn run(command: &mut Command) -> Output {
     output
 }
 
-#[test]
-fn the_c_program_prints_the_tables_of_banana() {
+/// Compiles tests/`source`, with every warning an error, and links the archive. Returns the program.
+fn compile(source: &str, standard: &str) -> PathBuf {
     let package = Path::new(env!("CARGO_MANIFEST_DIR"));
-    let program = Path::new(env!("CARGO_TARGET_TMPDIR")).join("banana");
-    let compiler = std::env::var_os("CC").unwrap_or_else(|| "cc".into());
-    run(Command::new(compiler)
-        .args(["-std=c99", "-pedantic", "-Wall", "-Wextra", "-Werror"])
-        .arg("-I")
-        .arg(package.join("../include"))
-        .arg(package.join("tests/banana.c"))
-        .arg(env!("LYNDON_ARCHIVE"))
-        .arg("-o")
-        .arg(&program));
-    let output = run(&mut Command::new(&program));
-    assert_eq!(String::from_utf8_lossy(&output.stdout), TABLES);
+    let program = Path::new(env!("CARGO_TARGET_TMPDIR")).join(format!("{source}-{standard}"));
+    let (variable, compiler, language) = if standard.starts_with("c++") {
+        ("CXX", "c++", "c++")
+    } else {
+        ("CC", "cc", "c")
+    };
+    run(
+        Command::new(std::env::var_os(variable).unwrap_or_else(|| compiler.into()))
+            .arg(format!("-std={standard}"))
+            .args(["-pedantic", "-Wall", "-Wextra", "-Werror", "-x", language])
+            .arg("-I")
+            .arg(package.join("../include"))
+            .arg(package.join("tests").join(source))
+            .args(["-x", "none", env!("LYNDON_ARCHIVE"), "-o"])
+            .arg(&program),
+    );
+    program
+}
+
+/// What the program prints.
+fn printed(program: PathBuf) -> String {
+    String::from_utf8(run(&mut Command::new(program)).stdout).expect("text")
+}
+
+#[test]
+fn the_program_prints_the_tables_of_banana_in_every_c() {
+    for standard in C_STANDARDS {
+        assert_eq!(printed(compile("banana.c", standard)), TABLES, "{standard}");
+    }
+}
+
+#[test]
+fn the_program_prints_the_tables_of_banana_in_every_cpp() {
+    for standard in CPP_STANDARDS {
+        assert_eq!(printed(compile("banana.c", standard)), TABLES, "{standard}");
+    }
+}
+
+/// A refusal's name as C has it: LYNDON_TOO_LONG for TooLong.
+fn c_name(refusal: Refusal) -> String {
+    let mut name = String::from("LYNDON");
+    for letter in format!("{refusal:?}").chars() {
+        if letter.is_uppercase() {
+            name.push('_');
+        }
+        name.push(letter.to_ascii_uppercase());
+    }
+    name
+}
+
+#[test]
+fn the_constants_are_those_of_the_wrapper() {
+    let mut expected = format!(
+        "LYNDON_VERSION {}\nLYNDON_MAX_LETTERS {}\nLYNDON_MAX_ENTRIES {}\n",
+        raw::VERSION,
+        lyndon::MAX_LETTERS,
+        lyndon::MAX_ENTRIES
+    );
+    for refusal in Refusal::ALL {
+        writeln!(expected, "{} {}", c_name(refusal), refusal.number()).expect("a string");
+    }
+    for n in [0, 1, 4, 5, 1_000_000] {
+        let length = lyndon::tree_length(n);
+        writeln!(expected, "LYNDON_TREE_BYTES({n}) {length}").expect("a string");
+    }
+    let buffers = lyndon::tree_length(7) + lyndon::cabinet_length(&[6, 2]);
+    writeln!(expected, "sizeof(struct buffers) {buffers}").expect("a string");
+    assert_eq!(printed(compile("header.c", "c99")), expected);
+    assert_eq!(printed(compile("header.c", "c++98")), expected);
+}
+
+#[test]
+fn the_archive_has_the_version_of_the_wrapper() {
+    assert_eq!(lyndon::version(), raw::VERSION);
 }

@@ -15,6 +15,10 @@ use Rattle.lyndon.specs.declared.Reply.{Reply}
 use Rattle.lyndon.specs.declared.PartReply.{PartReply}
 use Rattle.lyndon.specs.declared.CabinetReply.{CabinetReply}
 
+-- the version of the exported structures and functions: it rises with every change of one of them
+abbrev pub interfaceVersion : ℕ
+interfaceVersion = 1
+
 -- "A refusal carries its number and no other figure": the others are 0
 abbrev pub buildReply : build.Figures → BuildReply
 buildReply (build.finished rows equal unequal reach) = record { refusal = 0; finished = 1; rows = rows; equal = equal; unequal = unequal; reach = reach }

@@ -2,9 +2,12 @@
 ghost use mathlib.Core.Path.{_≡_};
 ghost use Rattle.build.specs.Built.{lent, figuresOf as builtFigures};
 ghost use Rattle.questions.specs.Answers.{figuresOf, previousAnswer, nextAnswer, placeAnswer};
-ghost use Rattle.lyndon.specs.Replies.{BuildReplied, ReadReplied, WriteReplied, buildReply, reply, wordReply, cabinetReply};
+ghost use Rattle.lyndon.specs.Replies.{interfaceVersion, BuildReplied, ReadReplied, WriteReplied, buildReply, reply, wordReply, cabinetReply};
 use build::Built;
 use questions::Answer;
+
+// LYNDON_VERSION of the header.
+const VERSION: u32 = 1;
 
 #[repr(C)]
 pub struct BuildReply {
@@ -35,6 +38,13 @@ pub struct CabinetReply {
     pub letters: u32,
     pub start: usize,
     pub length: usize,
+}
+
+#[no_mangle]
+pub extern "C" fn lyndon_version() -> u32
+    ensures { λ r. ⌜ r ≡ interfaceVersion ⌝ }
+{
+    VERSION
 }
 
 fn build_reply(built: Built) -> BuildReply

@@ -201,7 +201,7 @@ pub fn assert_build(letters: &[u8], rows: usize, expected: &Structure) {
     );
     assert_list("tree", lent.tree.contents(), &expected.tree);
     if rows > 0 {
-        assert!(built.equal <= built.reach - 1, "equal comparisons");
+        assert!(built.equal < built.reach, "equal comparisons");
         assert!(built.unequal <= 2 * (rows - 1), "unequal comparisons");
         assert!(built.reach <= n, "the reach");
     }

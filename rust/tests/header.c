@@ -1,0 +1,42 @@
+/* Prints the constants of the header, a name and a number to a line. */
+#include "lyndon.h"
+
+#include <stdio.h>
+
+static void show(const char *name, unsigned long value)
+{
+    printf("%s %lu\n", name, value);
+}
+
+#define SHOW(constant) show(#constant, (unsigned long)(constant))
+
+/* Of constants the lengths are constants. */
+struct buffers {
+    uint8_t tree[LYNDON_TREE_BYTES(7)];
+    uint8_t file[LYNDON_CABINET_BYTES(2, 3)];
+};
+
+int main(void)
+{
+    SHOW(LYNDON_VERSION);
+    SHOW(LYNDON_MAX_LETTERS);
+    SHOW(LYNDON_MAX_ENTRIES);
+    SHOW(LYNDON_TOO_LONG);
+    SHOW(LYNDON_TABLE_LENGTH);
+    SHOW(LYNDON_TREE_LENGTH);
+    SHOW(LYNDON_TOO_MANY_ROWS);
+    SHOW(LYNDON_POSITION_OUTSIDE);
+    SHOW(LYNDON_SPARE_BIT_SET);
+    SHOW(LYNDON_CLOSED_TOO_EARLY);
+    SHOW(LYNDON_LEFT_OPEN);
+    SHOW(LYNDON_NOT_MARKED);
+    SHOW(LYNDON_TOO_MANY_ENTRIES);
+    SHOW(LYNDON_WRONG_CONTENTS);
+    SHOW(LYNDON_TREE_BYTES(0));
+    SHOW(LYNDON_TREE_BYTES(1));
+    SHOW(LYNDON_TREE_BYTES(4));
+    SHOW(LYNDON_TREE_BYTES(5));
+    SHOW(LYNDON_TREE_BYTES(1000000));
+    SHOW(sizeof(struct buffers));
+    return 0;
+}
