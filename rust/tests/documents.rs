@@ -1,0 +1,108 @@
+//! What the pages say: the programs of docs/LINKING.md, made and run by the commands that the page gives; the output that
+//! README shows; the edits and files that docs/GUARANTEES.md names.
+
+use std::collections::BTreeSet;
+use std::path::Path;
+use std::process::Command;
+
+/// The repository's root.
+const ROOT: &str = concat!(env!("CARGO_MANIFEST_DIR"), "/..");
+
+/// A file of the repository.
+fn text_of(path: &str) -> String {
+    std::fs::read_to_string(Path::new(ROOT).join(path))
+        .unwrap_or_else(|error| panic!("{path}: {error}"))
+}
+
+/// What stands between the fence that opens with ` ```language ` and the next one, in this text.
+fn fenced<'a>(text: &'a str, language: &str) -> &'a str {
+    let opening = format!("\n```{language}\n");
+    let (_, behind) = text
+        .split_once(&opening)
+        .unwrap_or_else(|| panic!("no block of {language}"));
+    let (block, _) = behind.split_once("```").expect("a fence that closes");
+    block
+}
+
+/// Asserts that the commands under this heading of the page print what the page says.
+fn assert_prints_the_tables(heading: &str) {
+    let page = text_of("docs/LINKING.md");
+    let (_, section) = page
+        .split_once(&format!("\n## {heading}\n"))
+        .unwrap_or_else(|| panic!("no section {heading}"));
+    let section = section.split("\n## ").next().expect("a first part");
+    let output = Command::new("sh")
+        .args(["-e", "-c", fenced(section, "sh")])
+        .current_dir(ROOT)
+        .output()
+        .expect("a shell");
+    assert!(
+        output.status.success(),
+        "{}\n{}",
+        output.status,
+        String::from_utf8_lossy(&output.stderr)
+    );
+    assert_eq!(
+        String::from_utf8_lossy(&output.stdout),
+        fenced(&page, "text")
+    );
+}
+
+#[test]
+fn the_c_program_prints_the_tables() {
+    assert_prints_the_tables("C");
+}
+
+#[test]
+fn the_rust_program_prints_the_tables() {
+    assert_prints_the_tables("Rust");
+}
+
+#[test]
+fn the_python_program_prints_the_tables() {
+    assert_prints_the_tables("Python");
+}
+
+#[test]
+fn the_readme_shows_the_output_that_the_program_is_held_to() {
+    assert_eq!(
+        fenced(&text_of("README.md"), "text"),
+        text_of("crates/tables/stdout")
+    );
+}
+
+/// The edits that must fail, each as its crate's name, a slash and its own.
+fn edits() -> BTreeSet<String> {
+    let inside = |path: &Path| std::fs::read_dir(path).into_iter().flatten().flatten();
+    let mut edits = BTreeSet::new();
+    for folder in inside(&Path::new(ROOT).join("crates")) {
+        let name = folder.file_name();
+        for edit in inside(&folder.path().join("must-fail")) {
+            let label = Path::new(&name).join(edit.file_name()).with_extension("");
+            edits.insert(label.display().to_string());
+        }
+    }
+    edits
+}
+
+#[test]
+fn the_guarantees_name_every_edit_and_only_what_is_there() {
+    let page = text_of("docs/GUARANTEES.md");
+    let edits = edits();
+    assert!(!edits.is_empty(), "no edits found");
+    let paths: BTreeSet<String> = page
+        .split('`')
+        .skip(1)
+        .step_by(2)
+        .filter(|quoted| quoted.contains('/') && !quoted.contains(' '))
+        .map(String::from)
+        .collect();
+    let unnamed: Vec<_> = edits.difference(&paths).collect();
+    assert!(unnamed.is_empty(), "edits that are not named: {unnamed:?}");
+    for path in paths.difference(&edits) {
+        let found = [ROOT.into(), Path::new(ROOT).join("crates")]
+            .iter()
+            .any(|folder| folder.join(path).exists());
+        assert!(found, "{path} is not there");
+    }
+}
