@@ -14,11 +14,11 @@ pub struct BuildReply {
     pub finished: u32,
     /// The rows done.
     pub rows: usize,
-    /// The comparisons of the reuse steps that find two letters equal.
+    /// The comparisons of the reuse steps (`docs/STEPS.md` of the repository) that find two letters equal.
     pub equal: usize,
     /// Those that find them unequal.
     pub unequal: usize,
-    /// The reach after these rows.
+    /// The reach after these rows: see [`Built`](crate::Built).
     pub reach: usize,
 }
 
