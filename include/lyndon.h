@@ -10,7 +10,8 @@
  *   next_match[i]      match(i, next[i]); 0 where next[i] is none
  *
  * The tree has 2n bits, an opening (1) and a closing (0) for each position. Position i hangs under previous[i], or is a root.
- * Bit k is in byte k / 8 with weight 2 to the power k mod 8. The tree fills ceil(n / 4) bytes, whose spare bits are 0.
+ * Positions that hang under the same one stand left to right, and between its brackets; so the i-th opening, from 0, is that of
+ * position i. Bit k is in byte k / 8 with weight 2 to the power k mod 8. The tree fills ceil(n / 4) bytes, whose spare bits are 0.
  *
  * The counts of comparisons in a build's reply are those of the reuse steps: row by row from position 0 on, two letters are
  * compared only where a match cannot be copied from one that an earlier row recorded. docs/STEPS.md of the repository has them
@@ -27,11 +28,14 @@
  * with a refusal where the rules ask for one, else with 0. Where several apply, the lowest number is returned, except by the
  * two functions of a cabinet, which test in the order given at each. A refusal writes nothing to the lent memory.
  *
- * Memory. Each list passes as a pointer and then its length in entries, and the pointer points to so many entries. A pointer is
- * never null, not even where the length is 0: the functions take references of the language they are written in, which are
- * never null, and what is proved of them is proved of references. Where a list is empty, any other pointer will do, as that of
- * a variable. Lists that are written do not overlap each other or any other list of the same call. No function keeps a pointer,
- * allocates memory or changes anything but the lists it is lent, so calls from several threads need no lock.
+ * Memory. Each list passes as a pointer and then its length in entries. What nothing can test, and a caller must see to:
+ *   - a pointer points to so many entries, aligned as their type asks;
+ *   - it is not null, not even where the length is 0 (malloc(0) may be, and so may data() of an empty std::vector): the functions
+ *     take references of the language they are written in, which are never null, and what is proved is proved of references. Any
+ *     other pointer will do for an empty list, as that of a variable;
+ *   - a list that is written overlaps no other list of the call, and no other thread uses it meanwhile.
+ * No function keeps a pointer, allocates memory or changes anything but the lists it is lent, so calls that share no list that is
+ * written need no lock.
  *
  * One position or many. A question (lyndon_previous, lyndon_next, lyndon_place) judges the whole tree each time, which takes
  * some 0.1 to 0.3 ms at 1,000,000 positions; lyndon_read gives all entries in 2 to 9 ms. For one position ask; for some dozens
@@ -47,8 +51,9 @@
 extern "C" {
 #endif
 
-/* The version of this header: it rises with every change of a structure or a function. A program whose LYNDON_VERSION is not what
- * lyndon_version() returns was compiled against another header than the archive's, and is to be compiled again. */
+/* The version of this header: it rises with every change of a structure or a function, of what it answers too. A program whose
+ * LYNDON_VERSION is not what lyndon_version() returns was compiled against another header than the archive's, and is to be compiled
+ * again. */
 #define LYNDON_VERSION 1
 
 /* The version of the archive. */
@@ -59,27 +64,28 @@ uint32_t lyndon_version(void);
 #define LYNDON_MAX_ENTRIES 64
 
 /* The length in bytes of the tree of n positions, ceil(n / 4), and of a cabinet file of so many entries, whose trees have so many
- * bytes in all. Of constants they are constants. n is evaluated twice. */
+ * bytes in all. Of constants they are constants; else the arguments are best of type size_t. n is evaluated twice. */
 #define LYNDON_TREE_BYTES(n) ((n) / 4 + ((n) % 4 != 0))
 #define LYNDON_CABINET_BYTES(entries, trees_length) (8 + 8 * (entries) + (trees_length))
 
 /* The refusals. */
-enum {
-    LYNDON_TOO_LONG = 1,          /* n above 1,000,000; writing a cabinet: a letter count above 1,000,000 */
-    LYNDON_TABLE_LENGTH = 2,      /* a lent table not exactly n entries long */
-    LYNDON_TREE_LENGTH = 3,       /* the tree not exactly ceil(n / 4) bytes; writing a cabinet: the trees or the buffer not as many
-                                     bytes as the counts ask for */
-    LYNDON_TOO_MANY_ROWS = 4,     /* more rows asked than n */
-    LYNDON_POSITION_OUTSIDE = 5,  /* a position not below n; reading a cabinet: an entry not below the number of entries */
-    LYNDON_SPARE_BIT_SET = 6,     /* a spare bit of the tree is 1 */
-    LYNDON_CLOSED_TOO_EARLY = 7,  /* some first bits of the 2n hold more closings than openings */
-    LYNDON_LEFT_OPEN = 8,         /* no such place, but not all brackets are closed */
-    LYNDON_NOT_MARKED = 9,        /* a cabinet file under 8 bytes or with another mark than LYN1 */
-    LYNDON_TOO_MANY_ENTRIES = 10, /* a cabinet with more than 64 entries */
-    LYNDON_WRONG_CONTENTS = 11    /* a cabinet file whose contents are cut short, with a place that is not the end of what comes
-                                     before it, with bytes missing or left over at the end, or with a letter count above
-                                     1,000,000 */
-};
+typedef enum LyndonRefusal {
+    LYNDON_NOT_REFUSED = 0,
+    LYNDON_TOO_LONG = 1,           /* n above 1,000,000; writing a cabinet: a letter count above 1,000,000 */
+    LYNDON_WRONG_TABLE_LENGTH = 2, /* a lent table not exactly n entries long */
+    LYNDON_WRONG_TREE_LENGTH = 3,  /* the tree not exactly ceil(n / 4) bytes; writing a cabinet: the trees or the buffer not as
+                                      many bytes as the counts ask for */
+    LYNDON_TOO_MANY_ROWS = 4,      /* more rows asked than n */
+    LYNDON_POSITION_OUTSIDE = 5,   /* a position not below n; reading a cabinet: an entry not below the number of entries */
+    LYNDON_SPARE_BIT_SET = 6,      /* a spare bit of the tree is 1 */
+    LYNDON_CLOSED_TOO_EARLY = 7,   /* some first bits of the 2n hold more closings than openings */
+    LYNDON_LEFT_OPEN = 8,          /* no such place, but not all brackets are closed */
+    LYNDON_NOT_MARKED = 9,         /* a cabinet file under 8 bytes or with another mark than LYN1 */
+    LYNDON_TOO_MANY_ENTRIES = 10,  /* a cabinet with more than 64 entries */
+    LYNDON_WRONG_CONTENTS = 11     /* a cabinet file whose contents are cut short, with a place that is not the end of what comes
+                                      before it, with bytes missing or left over at the end, or with a letter count above
+                                      1,000,000 */
+} LyndonRefusal;
 
 /* The answer of lyndon_build. Where it is refused, every member but `refusal` is 0. */
 typedef struct LyndonBuildReply {

@@ -41,8 +41,13 @@ use std::fmt;
 
 pub mod raw;
 
-/// The version of `liblyndon.a`: it rises with every change of an exported structure or function. This
-/// wrapper is made for [`raw::VERSION`]; an archive of another version is not to be called through it.
+/// The version of `liblyndon.a`: it rises with every change of an exported structure or function, of what
+/// it answers too. This wrapper is made for [`raw::VERSION`]; no call compares the two, so a program
+/// that is linked with an archive from elsewhere asserts it once:
+///
+/// ```
+/// assert_eq!(lyndon::version(), lyndon::raw::VERSION);
+/// ```
 pub fn version() -> u32 {
     // SAFETY: it takes nothing and may always be called.
     unsafe { raw::lyndon_version() }

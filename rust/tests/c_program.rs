@@ -70,9 +70,12 @@ fn the_program_prints_the_tables_of_banana_in_every_cpp() {
     }
 }
 
-/// A refusal's name as C has it: LYNDON_TOO_LONG for TooLong.
+/// A refusal's name as C has it: LYNDON_TOO_LONG for TooLong. Two would read there as the length itself.
 fn c_name(refusal: Refusal) -> String {
     let mut name = String::from("LYNDON");
+    if let Refusal::TableLength | Refusal::TreeLength = refusal {
+        name.push_str("_WRONG");
+    }
     for letter in format!("{refusal:?}").chars() {
         if letter.is_uppercase() {
             name.push('_');
@@ -85,7 +88,7 @@ fn c_name(refusal: Refusal) -> String {
 #[test]
 fn the_constants_are_those_of_the_wrapper() {
     let mut expected = format!(
-        "LYNDON_VERSION {}\nLYNDON_MAX_LETTERS {}\nLYNDON_MAX_ENTRIES {}\n",
+        "LYNDON_VERSION {}\nLYNDON_MAX_LETTERS {}\nLYNDON_MAX_ENTRIES {}\nLYNDON_NOT_REFUSED 0\n",
         raw::VERSION,
         lyndon::MAX_LETTERS,
         lyndon::MAX_ENTRIES
