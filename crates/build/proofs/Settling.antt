@@ -16,6 +16,12 @@ use Rattle.reuse.proofs.Settle.{settle-scan, settle-by-next, settle-by-previous
 use Rattle.build.specs.States.{tablesOf, clearedTables, settledFrom}
 use Rattle.build.proofs.Clearing.{cleared-get}
 
+-- two pairs with equal numbers
+pub same-pair : {reach shift equal unequal reach′ shift′ equal′ unequal′ m : ℕ} {b : Bool} → reach ≡ reach′ → shift ≡ shift′ → equal ≡ equal′ → unequal ≡ unequal′
+    → _≡_ {A = SettledPair} (record { progress = record { reach = reach; shift = shift; equal = equal; unequal = unequal }; match = m; leftSmaller = b })
+    (record { progress = record { reach = reach′; shift = shift′; equal = equal′; unequal = unequal′ }; match = m; leftSmaller = b })
+same-pair p q v w = rw (p, q, v, w)
+
 -- ---- a scan that stands at m: what is left of it is the whole
 
 module _ (y : List ℕ) (s : Progress) (l r m : ℕ) {whole : SettledPair} (is : whole ≡ scanFrom y s l r m) where
@@ -27,15 +33,15 @@ module _ (y : List ℕ) (s : Progress) (l r m : ℕ) {whole : SettledPair} (is :
     left : length y - (r + m) ≡ suc (length y - (r + (m + 1)))
     left = omega arith
 
-    pub at-equal : getD y (l + m) 0 ≡ getD y (r + m) 0
-        → whole ≡ scanFrom y (record { reach = s .reach; shift = s .shift; equal = s .equal + 1; unequal = s .unequal }) l r (m + 1)
+    pub at-equal : {equal : ℕ} → getD y (l + m) 0 ≡ getD y (r + m) 0 → equal ≡ s .equal + 1
+        → whole ≡ scanFrom y (record { reach = s .reach; shift = s .shift; equal = equal; unequal = s .unequal }) l r (m + 1)
     unfolding scanFrom
-    at-equal e = is ∙ rw left (scan-equal y l r m (length y - (r + (m + 1))) (s .equal) (s .unequal) e ∙ rw (add-one m, add-one (s .equal)))
+    at-equal e q = is ∙ rw (left, q) (scan-equal y l r m (length y - (r + (m + 1))) (s .equal) (s .unequal) e ∙ rw (add-one m, add-one (s .equal)))
 
     pub at-unequal : {u : SettledPair} → getD y (l + m) 0 ≢ getD y (r + m) 0
-        → u ≡ stopped l r m (s .equal) (s .unequal + 1) (ltb (getD y (l + m) 0) (getD y (r + m) 0)) → u ≡ whole
+        → {equal unequal : ℕ} → u ≡ stopped l r m equal unequal (ltb (getD y (l + m) 0) (getD y (r + m) 0)) → equal ≡ s .equal → unequal ≡ s .unequal + 1 → u ≡ whole
     unfolding scanFrom
-    at-unequal e q = q ∙ sym (is ∙ rw (left, add-one (s .unequal)) (scan-unequal y l r m (length y - (r + (m + 1))) (s .equal) (s .unequal) e))
+    at-unequal e q v w = q ∙ same-pair refl refl v w ∙ sym (is ∙ rw (left, add-one (s .unequal)) (scan-unequal y l r m (length y - (r + (m + 1))) (s .equal) (s .unequal) e))
 
 -- ---- a pair of which nothing is known: x is next[l - d], and v the match that is recorded
 

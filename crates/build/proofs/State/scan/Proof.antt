@@ -21,13 +21,13 @@ returns : tie.Need-returns Inv-loop μ-loop
 returns c =
     let b = c .before .before .before .before .before in
     let i = b .before .loop .inv in
-    (at-unequal _ _ _ _ _ (i .4) (b .loop-test .taken) (c .before .before .if1 .taken) (c .stop .ensures .0), c .stop .ensures .1 ∙ i .3)
+    (at-unequal _ _ _ _ _ (i .4) (b .loop-test .taken) (c .before .before .if1 .taken) (c .stop .ensures .0) (omega arith) (omega arith), c .stop .ensures .1 ∙ i .3)
 
 loop-again : tie.Need-loop-again Inv-loop μ-loop
 loop-again c =
     let b = c .before .before .before .before in
     let i = b .before .loop .inv in
-    (omega arith, omega arith, i .2, i .3, at-equal _ _ _ _ _ (i .4) (b .loop-test .taken) (c .before .if1 .left))
+    (omega arith, omega arith, i .2, i .3, at-equal _ _ _ _ _ (i .4) (b .loop-test .taken) (c .before .if1 .left) (omega arith))
 
 returns-2 : tie.Need-returns-2 Inv-loop μ-loop
 returns-2 c =
