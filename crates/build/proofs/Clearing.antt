@@ -9,11 +9,18 @@ use Rattle.suffix.specs.Rows.{Tables}
 use Rattle.reuse.specs.Steps.{recordPrevious, recordNext}
 use Rattle.build.specs.States.{tablesOf, clearedFrom, clearedTables}
 
+pub tables-are : {a b c d a′ b′ c′ d′ : List ℕ} → a′ ≡ a → b′ ≡ b → c′ ≡ c → d′ ≡ d → tablesOf a′ b′ c′ d′ ≡ tablesOf a b c d
+tables-are p q u w = rw (p, q, u, w)
+
 pub cleared-length : (k v : ℕ) (t : List ℕ) → length (clearedFrom k v t) ≡ length t
 unfolding clearedFrom
 cleared-length k v [] = refl
 cleared-length zero v (x ∷ t) = ap suc (cleared-length zero v t)
 cleared-length (suc k) v (x ∷ t) = ap suc (cleared-length k v t)
+
+-- from the same place on, with the same value
+pub cleared-alike : {k v k′ v′ : ℕ} (t : List ℕ) → k ≡ k′ → v ≡ v′ → clearedFrom k v t ≡ clearedFrom k′ v′ t
+cleared-alike t p q = rw (p, q)
 
 -- no place is left, and every place is
 pub cleared-none : (v : ℕ) (t : List ℕ) → clearedFrom (length t) v t ≡ t

@@ -59,9 +59,6 @@ pub record AtWalk (y : List ℕ) (rows r : ℕ) (s : State) (t : Tables) (tree :
   -- the bits of the rows before, and the closings up to l
   pub at : bit + level y l ≡ r + r
 
-pub tables-are : {a b c d a′ b′ c′ d′ : List ℕ} → a′ ≡ a → b′ ≡ b → c′ ≡ c → d′ ≡ d → tablesOf a′ b′ c′ d′ ≡ tablesOf a b c d
-tables-are p q u w = rw (p, q, u, w)
-
 -- ---- the row loop
 
 sizes-of : (y : List ℕ) (k : ℕ) (t : Tables) → Sizes y (clearedTables (length y) k t) → Sizes y t

@@ -8,6 +8,7 @@ use Rattle.suffix.proofs.Bytes.{bytes-length, no-bytes}
 use Rattle.reuse.specs.Steps.{recordPrevious, recordNext}
 use Rattle.reuse.proofs.Row.{Sizes}
 use Rattle.build.specs.States.{tablesOf}
+use Rattle.build.proofs.Clearing.{tables-are}
 use Rattle.build.proofs.Invariants.{AtRows, AtWalk}
 use Rattle.build.proofs.Invariants as law
 use Rattle.build.proofs.build_rows.Statement.{statement}
@@ -102,7 +103,7 @@ row-recorded : (e : tie.After-record-entry2 Inv-walk μ-walk Inv-rows μ-rows) �
     (length (rows-start (rows-head (row e)) .args .letters .now)) 0
 unfolding recordPrevious recordNext
 row-recorded e =
-    law.tables-are (row e .record-entry .ensures .0) (e .record-entry2 .ensures .0) (row e .record-entry .ensures .1) (e .record-entry2 .ensures .1)
+    tables-are (row e .record-entry .ensures .0) (e .record-entry2 .ensures .0) (row e .record-entry .ensures .1) (e .record-entry2 .ensures .1)
 
 walk-holds : tie.Need-walk-holds Inv-walk μ-walk Inv-rows μ-rows
 walk-holds c =
@@ -128,7 +129,7 @@ next-recorded : (i : tie.After-record-entry3 Inv-walk μ-walk Inv-rows μ-rows) 
     ≡ recordNext (tablesOf (row (pended a) .record-entry .last .0) (a .walk .next) (row (pended a) .record-entry .last .1 .0) (a .walk .next-match)) (a .walk .l)
     (rows-head (row (pended a)) .rows .state .rows) (S .settle .result .matched)
 unfolding recordNext
-next-recorded i = law.tables-are refl (i .record-entry3 .ensures .0) refl (i .record-entry3 .ensures .1)
+next-recorded i = tables-are refl (i .record-entry3 .ensures .0) refl (i .record-entry3 .ensures .1)
 
 rows-again-2 : tie.Need-rows-again-2 Inv-walk μ-walk Inv-rows μ-rows
 rows-again-2 c =

@@ -1,5 +1,8 @@
 -- `build::clear_tables` meets its contract.
+use mathlib.Core.Path.{_∙_}
+use native.Mathlib.Omega.{arith}
 use borrow.Author.Needs.{needs}
+use Rattle.build.proofs.Clearing.{tables-are, cleared-alike}
 use Rattle.build.proofs.clear_tables.Statement.{statement}
 use Rattle.build.proofs.clear_tables.Tie as tie
 
@@ -8,7 +11,8 @@ returns c =
     let d = c .before .before in
     let b = d .before .before .before .before in
     let q = b .before .before .before .before in
-    rw (q .before .before .before .before .clear-from .ensures, q .clear-from2 .ensures, b .clear-from3 .ensures, d .clear-from4 .ensures)
+    tables-are (q .before .before .before .before .clear-from .ensures ∙ cleared-alike _ (omega arith) (omega arith)) (q .clear-from2 .ensures ∙ cleared-alike _ (omega arith) (omega arith))
+    (b .clear-from3 .ensures ∙ cleared-alike _ (omega arith) (omega arith)) (d .clear-from4 .ensures ∙ cleared-alike _ (omega arith) (omega arith))
 
 pub clear-tables-spec : {M : Type 1} → statement M
 clear-tables-spec =

@@ -40,8 +40,8 @@ from-is c =
     (record {
       fits = omega (arith, w .0 .taken);
       is =
-          ⊎-elim (λ x. by-next _ _ _ _ _ _ _ (e .if1 .left) (w .0 .taken) _ _ (w .3 .ensures .0) (x .0 .taken) (x .1 .ensures .0) ∙ reuse-scan _ _ _ _ _ _ (x .3 .left))
-          (λ x. by-previous _ _ _ _ _ _ _ (e .if1 .left) (w .0 .taken) _ _ (w .3 .ensures .0) (x .0 .left) (x .1 .ensures .0) ∙ reuse-scan _ _ _ _ _ _ (x .3 .left)) (w .4 .came);
+          ⊎-elim (λ x. by-next _ _ _ _ _ _ _ (e .if1 .left) (w .0 .taken) _ _ (w .3 .ensures .0) (x .0 .taken) (x .1 .ensures .0) ∙ reuse-scan _ _ _ _ _ _ (omega arith))
+          (λ x. by-previous _ _ _ _ _ _ _ (e .if1 .left) (w .0 .taken) _ _ (w .3 .ensures .0) (x .0 .left) (x .1 .ensures .0) ∙ reuse-scan _ _ _ _ _ _ (omega arith)) (w .4 .came);
     }))
     (λ w. rw (w .1) (record { fits = s .fits; is = scans _ _ _ _ _ _ _ (e .if1 .left) (w .0 .left) }))
     (c .if2 .came)
@@ -54,7 +54,7 @@ returns-2 c =
     let t = c .before .before .before .before .before .before .before in (
       sym
           (by-next _ _ _ _ _ _ _ (t .before .before .if1 .left) (t .if2 .taken) _ _ (c .before .before .before .before .read .ensures .0) (c .before .before .before .if3 .taken) (c .before .before .read2 .ensures .0)
-          ∙ reuse-copy _ _ _ _ _ _ (c .if4 .taken)),
+          ∙ reuse-copy _ _ _ _ _ _ (omega arith)),
       refl,
     )
 
@@ -63,7 +63,7 @@ returns-3 c =
     let t = c .before .before .before .before .before .before .before in (
       sym
           (by-previous _ _ _ _ _ _ _ (t .before .before .if1 .left) (t .if2 .taken) _ _ (c .before .before .before .before .read .ensures .0) (c .before .before .before .if3 .left) (c .before .before .read3 .ensures .0)
-          ∙ reuse-copy _ _ _ _ _ _ (c .if5 .taken)),
+          ∙ reuse-copy _ _ _ _ _ _ (omega arith)),
       refl,
     )
 
