@@ -53,6 +53,13 @@ module _ (letters : List ℕ) (R : ℕ) (before : Lent) where
     pub tree : length (before .tree) ≡ treeLength n
     pub rows : R ≤ n
 
+  -- a report tells the rows that are asked, and the counts and the reach of the state
+  pub record Told (s : State) (report : Report) : Type 0 where
+    pub rows : report .rows ≡ R
+    pub equal : report .equal ≡ s .equal
+    pub unequal : report .unequal ≡ s .unequal
+    pub reach : report .reach ≡ s .reach
+
   module _ (taken : refusalOf letters R before ≡ 0) where
     pub accepted : Accepted
     unfolding refusalOf buildRefusal lowest
@@ -74,24 +81,22 @@ module _ (letters : List ℕ) (R : ℕ) (before : Lent) where
           rows = ltb-false _ _ (d .0);
         }
 
-    module _ (s : State) (after : Lent) (i : buildState s (after .tables) ≡ afterRows letters R) (q : after .tree ≡ treeBytes letters R) (k : s .rows ≡ R) where
+    module _ (s : State) (after : Lent) (i : buildState s (after .tables) ≡ afterRows letters R) (q : after .tree ≡ treeBytes letters R)
+        {report : Report} (told : Told s report) where
       E : Exact letters R
       E = exact letters R (accepted .rows)
-
-      abbrev report : Report
-      report = record { rows = s .rows; equal = s .equal; unequal = s .unequal; reach = s .reach }
 
       tables : after .tables ≡ tablesAfter letters R
       tables = ap (λ (b : BuildState). b .tables) i ∙ E .tables
 
-      equals : s .equal ≡ equalComparisons letters R
-      equals = ap (λ (b : BuildState). b .progress .equal) i
+      equals : report .equal ≡ equalComparisons letters R
+      equals = told .equal ∙ ap (λ (b : BuildState). b .progress .equal) i
 
-      unequals : s .unequal ≡ unequalComparisons letters R
-      unequals = ap (λ (b : BuildState). b .progress .unequal) i
+      unequals : report .unequal ≡ unequalComparisons letters R
+      unequals = told .unequal ∙ ap (λ (b : BuildState). b .progress .unequal) i
 
-      reached : s .reach ≡ reach letters R
-      reached = ap (λ (b : BuildState). b .progress .reach) i ∙ E .reached
+      reached : report .reach ≡ reach letters R
+      reached = told .reach ∙ ap (λ (b : BuildState). b .progress .reach) i ∙ E .reached
 
       exactly : (r : Built) → figuresOf r ≡ answer letters R before → BuiltExactly letters R before after r
       unfolding lentAtExit lentAfter
@@ -104,8 +109,8 @@ module _ (letters : List ℕ) (R : ℕ) (before : Lent) where
 
       pub finished : R ≡ n → BuiltExactly letters R before after (Finished report)
       unfolding answer
-      finished h = exactly (Finished report) (rw (eq-eqb (refusalOf letters R before) 0 taken, eq-eqb R n h, answer, k, equals, unequals, reached))
+      finished h = exactly (Finished report) (rw (eq-eqb (refusalOf letters R before) 0 taken, eq-eqb R n h, answer, told .rows, equals, unequals, reached))
 
       pub halted : R ≢ n → BuiltExactly letters R before after (Halted report)
       unfolding answer
-      halted h = exactly (Halted report) (rw (eq-eqb (refusalOf letters R before) 0 taken, ne-eqb R n h, answer, k, equals, unequals, reached))
+      halted h = exactly (Halted report) (rw (eq-eqb (refusalOf letters R before) 0 taken, ne-eqb R n h, answer, told .rows, equals, unequals, reached))

@@ -1,5 +1,6 @@
 -- `build::build` meets its contract: each way out is a law of proofs/Answers.antt.
 use mathlib.Core.Path.{_≡_, sym, ap, _∙_}
+use native.Mathlib.Omega.{arith}
 use lib.ListN.{length, replicate}
 use borrow.Author.Needs.{needs}
 use Rattle.refusal.specs.Numbers.{verdictNumber}
@@ -87,13 +88,15 @@ returns-2 : tie.Need-returns-2
 returns-2 c =
     let t = c .before .before .before .before .before .before .before .before .before in
     let e = built t .build-rows .ensures in
-    answers.finished _ _ _ (taken (told (built t))) (built t .build-rows .result) (after t) (exact t) (e .1 .0) (e .1 .1) (c .if1 .taken)
+    answers.finished _ _ _ (taken (told (built t))) (built t .build-rows .result) (after t) (exact t) (e .1 .0)
+    (record { rows = omega (arith, e .1 .1); equal = omega arith; unequal = omega arith; reach = omega arith }) (c .if1 .taken)
 
 returns-3 : tie.Need-returns-3
 returns-3 c =
     let t = c .before .before .before .before .before .before .before .before .before in
     let e = built t .build-rows .ensures in
-    answers.halted _ _ _ (taken (told (built t))) (built t .build-rows .result) (after t) (exact t) (e .1 .0) (e .1 .1) (c .if1 .left)
+    answers.halted _ _ _ (taken (told (built t))) (built t .build-rows .result) (after t) (exact t) (e .1 .0)
+    (record { rows = omega (arith, e .1 .1); equal = omega arith; unequal = omega arith; reach = omega arith }) (c .if1 .left)
 
 pub build-spec : {M : Type 1} → statement M
 build-spec =
