@@ -66,7 +66,7 @@ module _ (y : List ℕ) where
 
   pub nextAfter-out : (R i : ℕ) → R ≤ next y i → nextAfter y R i ≡ length y
   unfolding nextAfter
-  nextAfter-out R i h = rw (settled-out R i h, nextAfter)
+  nextAfter-out R i h = rw (settled-out R i h, nextAfter) (omega arith)
 
   pub nextMatchAfter-in : (R i : ℕ) → i < length y → next y i < R → nextMatchAfter y R i ≡ nextMatch y i
   unfolding nextMatchAfter
