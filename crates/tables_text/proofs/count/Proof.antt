@@ -1,5 +1,5 @@
 -- `tables_text::count` meets its contract: the answer is the case that it is matched as, and the sum fits.
-use mathlib.Core.Path.{sym, ap}
+use mathlib.Core.Path.{ap}
 use Prim.Native.Nat.{ℕ}
 use native.Mathlib.Omega.{arith}
 use borrow.Author.Needs.{needs}
@@ -21,6 +21,6 @@ count-spec =
     (λ c. search needs)
     (λ c. omega (arith, ap counted (c .before .before .built2 .given .1)))
     (λ c. search needs)
-    (λ c. sym (ap counted (c .before .before .built .given .1)))
-    (λ c. sym (ap counted (c .before .before .built2 .given .1)))
+    (λ c. omega (arith, ap counted (c .before .before .built .given .1)))
+    (λ c. omega (arith, ap counted (c .before .before .built2 .given .1)))
     (λ c. search needs))

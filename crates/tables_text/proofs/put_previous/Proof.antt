@@ -10,22 +10,22 @@ use Rattle.tables_text.proofs.put_previous.Tie as tie
 put-requires : tie.Need-put-requires
 put-requires c κs =
     let a = c .before .before .before .before .args in
-    omega (arith, ap length (dash (a .n) (a .p) (c .before .before .if1 .taken)))
+    omega (arith, ap length (dash (a .n) (a .p) (omega arith)))
 
 returns : tie.Need-returns
 returns c =
     let a = c .before .before .before .before .before .before .before .args in
-    rw (dash (a .n) (a .p) (c .before .before .before .before .before .if1 .taken)) (c .before .before .put .ensures)
+    rw (dash (a .n) (a .p) (omega arith)) (c .before .before .put .ensures)
 
 put-field-requires : tie.Need-put-field-requires
 put-field-requires c κs =
     let a = c .before .before .before .args in
-    omega (arith, ap length (no-dash (a .n) (a .p) (c .before .if1 .left)))
+    omega (arith, ap length (no-dash (a .n) (a .p) (omega arith)))
 
 returns-2 : tie.Need-returns-2
 returns-2 c =
     let a = c .before .before .before .before .before .before .args in
-    rw (no-dash (a .n) (a .p) (c .before .before .before .before .if1 .left)) (c .before .before .put-field .ensures)
+    rw (no-dash (a .n) (a .p) (omega arith)) (c .before .before .put-field .ensures)
 
 pub put-previous-spec : {M : Type 1} → statement M
 put-previous-spec =
