@@ -9,9 +9,6 @@ use Rattle.suffix.specs.Rows.{Tables}
 use Rattle.reuse.specs.Steps.{recordPrevious, recordNext}
 use Rattle.build.specs.States.{tablesOf, clearedFrom, clearedTables}
 
-pub tables-are : {a b c d a′ b′ c′ d′ : List ℕ} → a′ ≡ a → b′ ≡ b → c′ ≡ c → d′ ≡ d → tablesOf a′ b′ c′ d′ ≡ tablesOf a b c d
-tables-are p q u w = rw (p, q, u, w)
-
 pub cleared-length : (k v : ℕ) (t : List ℕ) → length (clearedFrom k v t) ≡ length t
 unfolding clearedFrom
 cleared-length k v [] = refl

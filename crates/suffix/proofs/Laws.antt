@@ -21,7 +21,7 @@ use Rattle.suffix.proofs.Sequence.{Less, Match, agree-sym, agree-match,
 use Rattle.suffix.proofs.Edges.{Edge, PreviousAt, NextAt, Chain, here, up, no-cross, prev-chain, edge-chain, chain-over, next-edge, edge-prev, edge-next, match-below, match-above, match-equal, match-edge, below-prev}
 use Rattle.suffix.proofs.Order.{extended, extended-in, extended-out, lex-irreflexive, lex-transitive, lce-match, lce-is, total, less-true, less-false, less-from-true, less-at-match, agree-fits}
 use Rattle.suffix.proofs.Nearest.{PreviousCase, some, none, previous-case, previous-any, previous-is, previous-low, previous-all, previous-at, next-at, next-le, next-is, pair-edge, pair-edge-end, edge-pair}
-use Rattle.suffix.proofs.Rows.{nextMatch-none, previousAfter-in, previousMatchAfter-in, nextAfter-in, nextAfter-out, nextMatchAfter-in, nextMatchAfter-out, previousAfter-stays, previousMatchAfter-stays, nextAfter-stays, nextMatchAfter-stays}
+use Rattle.suffix.proofs.Rows.{tables-are, nextMatch-none, previousAfter-in, previousMatchAfter-in, nextAfter-in, nextAfter-out, nextMatchAfter-in, nextMatchAfter-out, previousAfter-stays, previousMatchAfter-stays, nextAfter-stays, nextMatchAfter-stays}
 use Rattle.suffix.proofs.Reach.{pair-in, pair-from}
 use Rattle.suffix.proofs.Lyndon.{longest-next}
 use Rattle.suffix.proofs.Written.{rows-write, tree-length}
@@ -85,7 +85,7 @@ previousIsGreatest y i h = go (previous-case y i h)
         (record {
           before = P .before;
           smaller = less-true y (previous y i) i (omega (arith, P .before)) (omega (arith, P .before)) (omega arith) (P .smaller);
-          greatest = λ k g e. le-unless k (previous y i) (λ w. true≢false (sym e ∙ not-larger k g (P .nearest k w g)));
+          greatest = λ k g e. omega (arith, le-unless k (previous y i) (λ w. true≢false (sym e ∙ not-larger k g (P .nearest k w g))));
         })
 
 pub nextIsLeast : NextIsLeast
@@ -105,7 +105,7 @@ nextIsLeast y i h = go (same? (next y i) (length y))
           after = N .after;
           below = omega (arith, next-le y i);
           smaller = less-true y (next y i) i (omega (arith, N .after)) (next-le y i) (omega arith) (N .smaller);
-          least = λ k g w q. le-unless (next y i) k (λ u. true≢false (sym q ∙ not-larger k g u));
+          least = λ k g w q. omega (arith, le-unless (next y i) k (λ u. true≢false (sym q ∙ not-larger k g u)));
         })
 
 pub pairsAreEdges : PairsAreEdges
@@ -228,11 +228,10 @@ pub allRowsGiveAllEntries : AllRowsGiveAllEntries
 unfolding tablesAfter
 allRowsGiveAllEntries y =
     let n : ℕ = length y in
-    let a : tabulate n (previousAfter y n) ≡ tabulate n (previous y) = tabulate-same (previousAfter y n) (previous y) n (λ i h. previousAfter-in y n i h) in
-    let b : tabulate n (nextAfter y n) ≡ tabulate n (next y) = tabulate-same (nextAfter y n) (next y) n (λ i h. settled i h (same? (next y i) n)) in
-    let c : tabulate n (previousMatchAfter y n) ≡ tabulate n (previousMatch y) = tabulate-same (previousMatchAfter y n) (previousMatch y) n (λ i h. previousMatchAfter-in y n i h) in
-    let d : tabulate n (nextMatchAfter y n) ≡ tabulate n (nextMatch y) = tabulate-same (nextMatchAfter y n) (nextMatch y) n (λ i h. settledMatch i h (same? (next y i) n)) in
-    rw (a, b, c, d)
+    tables-are (tabulate-same (previousAfter y n) (previous y) n (λ i h. previousAfter-in y n i h))
+    (tabulate-same (nextAfter y n) (next y) n (λ i h. settled i h (same? (next y i) n)))
+    (tabulate-same (previousMatchAfter y n) (previousMatch y) n (λ i h. previousMatchAfter-in y n i h))
+    (tabulate-same (nextMatchAfter y n) (nextMatch y) n (λ i h. settledMatch i h (same? (next y i) n)))
   where
     settled : (i : ℕ) → i < length y → Same (next y i) (length y) → nextAfter y (length y) i ≡ next y i
     settled i h (same e) = nextAfter-out y (length y) i (omega arith) ∙ sym e

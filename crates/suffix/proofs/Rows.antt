@@ -10,9 +10,15 @@ use lib.ListN.{length}
 use borrow.Author.Tests.{lt-ltb, le-ltb, eq-eqb, ne-eqb}
 use Rattle.suffix.specs.Order.{lce}
 use Rattle.suffix.specs.Nearest.{previous, next, previousMatch, nextMatch}
-use Rattle.suffix.specs.Rows.{previousAfter, previousMatchAfter, nextSettled, nextAfter, nextMatchAfter}
+use Rattle.suffix.specs.Rows.{Tables, previousAfter, previousMatchAfter, nextSettled, nextAfter, nextMatchAfter}
 use Rattle.suffix.proofs.Cases.{Tri, lt, eq, gt, tri}
 use Rattle.suffix.proofs.Nearest.{next-at}
+
+-- tables with equal lists
+pub tables-are :
+    {a b c d a′ b′ c′ d′ : List ℕ} → a ≡ a′ → b ≡ b′ → c ≡ c′ → d ≡ d′
+    → _≡_ {A = Tables} (record { previous = a; next = b; previousMatch = c; nextMatch = d }) (record { previous = a′; next = b′; previousMatch = c′; nextMatch = d′ })
+tables-are p q u w = rw (p, q, u, w)
 
 module _ (y : List ℕ) where
   pub previousMatch-none : (i : ℕ) → previous y i ≡ length y → previousMatch y i ≡ 0

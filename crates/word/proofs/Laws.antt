@@ -74,4 +74,4 @@ pub wordIsLongest : WordIsLongest
 wordIsLongest y i e =
     let h : i < length y = inside (length y) i e in
     let z : length (wordPart y i) ≡ longestLyndon y i = ap length (part-taken y i e) ∙ part-length y i (longestLyndon y i) (longest-fits y i h) in
-    (z ∙ longest-next y i h, z)
+    (omega (arith, z, longest-next y i h), z)

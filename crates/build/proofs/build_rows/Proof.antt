@@ -5,10 +5,10 @@ use native.Mathlib.Omega.{arith}
 use lib.ListN.{length, length-replicate}
 use Rattle.suffix.specs.Tree.{treeBytes}
 use Rattle.suffix.proofs.Bytes.{bytes-length, no-bytes}
+use Rattle.suffix.proofs.Rows.{tables-are}
 use Rattle.reuse.specs.Steps.{recordPrevious, recordNext}
 use Rattle.reuse.proofs.Row.{Sizes}
 use Rattle.build.specs.States.{tablesOf}
-use Rattle.build.proofs.Clearing.{tables-are}
 use Rattle.build.proofs.Invariants.{AtRows, AtWalk}
 use Rattle.build.proofs.Invariants as law
 use Rattle.build.proofs.build_rows.Statement.{statement}
@@ -72,7 +72,8 @@ sizes s = let p = s .pre .1 .0 in record { previous = p .0; next = p .1; previou
 returns : tie.Need-returns Inv-walk μ-walk Inv-rows μ-rows
 returns c =
     let s = c .before .before .before .before .before .before .before in
-    rw (c .if1 .taken) (law.no-rows _ _ (sizes s), (s .pre .1 .1 ∙ no-bytes _, refl))
+    let none : s .args .rows ≡ 0 = omega arith in
+    rw none (law.no-rows _ _ (sizes s), (s .pre .1 .1 ∙ no-bytes _, refl))
 
 rows-holds : tie.Need-rows-holds Inv-walk μ-walk Inv-rows μ-rows
 rows-holds c =
