@@ -94,7 +94,8 @@ fn the_guarantees_name_every_edit_and_only_what_is_there() {
         .split('`')
         .skip(1)
         .step_by(2)
-        .filter(|quoted| quoted.contains('/') && !quoted.contains(' '))
+        .filter(|quoted| quoted.contains('/') || quoted.ends_with(".antt"))
+        .filter(|quoted| !quoted.contains(' '))
         .map(String::from)
         .collect();
     let unnamed: Vec<_> = edits.difference(&paths).collect();
