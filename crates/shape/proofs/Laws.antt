@@ -97,7 +97,7 @@ tablesAreOne n t p x T = (
     same i h = rw (T .previous, T .next) (entry-one (entries (bitOf t) (is-laid T) n i (omega (arith, T .positions))) (table-entry n t B i h))
 
 pub equalTablesEqualTrees : EqualTablesEqualTrees
-equalTablesEqualTrees n t u p x a b T U = bytes-by-bits t u (T .bytes ∙ sym (U .bytes)) a b (λ k h. go k h (tri k (2 * n)))
+equalTablesEqualTrees n t u p x a b T U = bytes-by-bits t u (T .bytes ∙ sym (U .bytes)) (λ j. omega (arith, a j)) (λ j. omega (arith, b j)) (λ k h. go k h (tri k (2 * n)))
   where
     shapes : T .shape ≡ U .shape
     shapes = ends-tell (T .shape) (U .shape) 0 (sym (T .next) ∙ U .next)

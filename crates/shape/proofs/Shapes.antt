@@ -79,19 +79,19 @@ module _ (g : ℕ → Bool) where
     ib : opened g (suc b) ≡ suc (opened g a) + size u
     ib = omega (arith, shuts g b y, laid-end U, ia)
 
-    at-root : {up : ℕ} → Place a c up (opened g a + 0) up (opened g a + suc (size u))
-    at-root =
+    at-root : {up p v : ℕ} → p ≡ up → v ≡ opened g a + suc (size u) → Place a c up (opened g a + 0) p v
+    at-root q e =
         record {
           place = a;
           low = omega arith;
           high = omega (arith, laid-end U, laid-end R);
           is-open = x;
           number = omega arith;
-          parent = inr (refl, refl, λ j h k. (let z : j ≡ a = omega arith in rw z (omega arith)));
+          parent = inr (q, refl, λ j h k. (let z : j ≡ a = omega arith in rw z (omega arith)));
           close = suc b;
           closed =
               record { after = omega (arith, laid-end U); within = λ j h k. laid-above U j h (omega arith); closes = omega (arith, laid-end U, shuts g b y) };
-          end = omega (arith, ib);
+          end = omega (arith, e, ib);
         }
 
     -- below the root: what hangs under nothing there hangs under the root
@@ -145,7 +145,7 @@ module _ (g : ℕ → Bool) where
   places : {a c : ℕ} {f : Forest} → Laid a f c → (up : ℕ) → Places a c up f
   unfolding Places
   places empty up j h = absurd (omega arith)
-  places (node x U y R) up zero h = at-root x U y R
+  places (node x U y R) up zero h = at-root x U y R (omega arith) (omega arith)
   places {a} {c} (node {b = b} {under = u} {right = r} x U y R) up (suc j) h = go (tri j (size u)) (places U (opened g a)) (places R up)
     where
       k : ℕ
