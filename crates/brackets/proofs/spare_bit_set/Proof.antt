@@ -8,7 +8,7 @@ use Rattle.brackets.proofs.spare_bit_set.Statement.{statement}
 use Rattle.brackets.proofs.spare_bit_set.Tie as tie
 
 returns : tie.Need-returns
-returns c = let s = c .before in sym (no-spare-bits (s .args .n) (s .args .tree .now) (s .pre .1) (c .if1 .taken))
+returns c = let s = c .before in sym (no-spare-bits (s .args .n) (s .args .tree .now) (s .pre .1) (omega arith))
 
 shared-slice-read-result : tie.Need-shared-slice-read-result
 shared-slice-read-result c = search needs
