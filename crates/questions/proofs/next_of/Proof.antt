@@ -69,7 +69,7 @@ unfolding nextAnswer
 returns-2 c =
     let s = start (c .before .before) in
     let p = at-place (c .before .before) in
-    ap value (next (c .before) .1) ∙ answered-value (questionRefusal (s .args .n) (s .args .tree .now) (s .args .position)) (getD (nextTable (s .args .n) (s .args .tree .now)) (s .args .position) 0) (p .asked .none)
+    ap value (omega (arith, next (c .before) .1)) ∙ answered-value (questionRefusal (s .args .n) (s .args .tree .now) (s .args .position)) (getD (nextTable (s .args .n) (s .args .tree .now)) (s .args .position) 0) (p .asked .none)
 
 pub next-of-spec : {M : Type 1} → statement M
 next-of-spec =

@@ -47,7 +47,7 @@ returns-2 c =
     let s = c .before .before .before .before .before in
     let a = asked (c .before) in
     let p = c .select .ensures in
-    ap value (sym (place-is (s .args .n) (s .args .tree .now) (s .args .position) (a .whole) (a .inside) (c .select .result) (p .1) (p .2)))
+    ap value (omega (arith, place-is (s .args .n) (s .args .tree .now) (s .args .position) (a .whole) (a .inside) (c .select .result) (p .1) (p .2)))
     ∙ answered-value (questionRefusal (s .args .n) (s .args .tree .now) (s .args .position)) (placeOf (s .args .n) (s .args .tree .now) (s .args .position)) (a .none)
 
 pub place-of-spec : {M : Type 1} → statement M

@@ -61,14 +61,14 @@ add-t11 c =
     omega (arith, p .low, p .asked .small)
 
 sub-t13 : tie.Need-sub-t13
-sub-t13 c = previous (c .before) .1
+sub-t13 c = omega (arith, previous (c .before) .1)
 
 returns-2 : tie.Need-returns-2
 unfolding previousAnswer
 returns-2 c =
     let s = start (c .before .before .before) in
     let p = at-place (c .before .before .before) in
-    ap value (previous (c .before) .2) ∙ answered-value (questionRefusal (s .args .n) (s .args .tree .now) (s .args .position)) (getD (previousTable (s .args .n) (s .args .tree .now)) (s .args .position) 0) (p .asked .none)
+    ap value (omega (arith, previous (c .before) .2)) ∙ answered-value (questionRefusal (s .args .n) (s .args .tree .now) (s .args .position)) (getD (previousTable (s .args .n) (s .args .tree .now)) (s .args .position) 0) (p .asked .none)
 
 returns-3 : tie.Need-returns-3
 unfolding previousAnswer
