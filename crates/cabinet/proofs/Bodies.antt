@@ -35,10 +35,10 @@ module _ (bytes : List ℕ) (first : ℕ) (f g : ℕ → ℕ) where
       (λ k h. ap₂ flawNumber (q k h) (body-moved k (λ j w. q j (omega arith)) (q k h))))
 
 -- the verdict on a body as a tree is that on its flaws
-pub body-flaw : (bytes : List ℕ) (start n k : ℕ) → n ≤ 1000000 → start + treeLength n ≤ length bytes → k ≡ treeLength n
-    → treeRefusal n (take k (drop start bytes)) ≡ flawNumber n (part bytes start (treeLength n))
+pub body-flaw : (bytes : List ℕ) (start n k : ℕ) {m : ℕ} → m ≡ n → n ≤ 1000000 → start + treeLength n ≤ length bytes → k ≡ treeLength n
+    → treeRefusal m (take k (drop start bytes)) ≡ flawNumber n (part bytes start (treeLength n))
 unfolding part
-body-flaw bytes start n k h w e = rw e (tree-flaw n (take (treeLength n) (drop start bytes)) h (length-take-le (treeLength n) (drop start bytes) (omega (arith, length-drop start bytes))))
+body-flaw bytes start n k z h w e = rw (z, e) (tree-flaw n (take (treeLength n) (drop start bytes)) h (length-take-le (treeLength n) (drop start bytes) (omega (arith, length-drop start bytes))))
 
 -- ---- bodies looked through one by one
 

@@ -49,9 +49,10 @@ module _ (file : List ℕ) (at : ℕ) (h : at + 4 ≤ length file) where
         next (at + 3) (at + 4) (omega arith) (omega arith),
       )
 
-  pub number-is : numberAt file at ≡ getD file at 0 + 256 * (getD file (at + 1) 0 + 256 * (getD file (at + 2) 0 + 256 * getD file (at + 3) 0))
+  pub number-is : {i j k l : ℕ} → i ≡ at → j ≡ at + 1 → k ≡ at + 2 → l ≡ at + 3
+      → getD file i 0 + 256 * (getD file j 0 + 256 * (getD file k 0 + 256 * getD file l 0)) ≡ numberAt file at
   unfolding numberAt valueOf
-  number-is = rw four (omega arith)
+  number-is p q r s = rw (p, q, r, s, four) (omega arith)
 
   module _ (small : AreBytes file) where
     -- the number read, written again

@@ -37,9 +37,9 @@ pub record EntriesTo (counts before now : List ℕ) (k place : ℕ) : Type 0 whe
   pub same : length now ≡ length before
 
 module _ (counts before : List ℕ) where
-  pub entries-none : EntriesTo counts before before 0 (contentsEnd (length counts))
+  pub entries-none : {place : ℕ} → place ≡ contentsEnd (length counts) → EntriesTo counts before before 0 place
   unfolding sumBelow contents
-  entries-none = record { ends = omega arith; wrote = wrote-none before 8; same = refl }
+  entries-none e = record { ends = omega arith; wrote = wrote-none before 8; same = refl }
 
   module _ {now : List ℕ} {k place : ℕ} (S : EntriesTo counts before now k place) where
     pub place-most : Allowed counts → k ≤ length counts → place ≤ contentsEnd (length counts) + 250000 * k

@@ -72,7 +72,7 @@ found c =
     let n = t .before .number-at .result in
     let e = t .tree-length .ensures in
     c .verdict-on .ensures
-    ∙ body-flaw (file t) start n (start + t .tree-length .result - start) (short t) (omega (arith, e, within t)) (omega (arith, e))
+    ∙ body-flaw (file t) start n (start + t .tree-length .result - start) (omega arith) (short t) (omega (arith, e, within t)) (omega (arith, e))
     ∙ ap (λ m. flawNumber m (part (file t) start (treeLength m))) (n-is t)
 
 returns : tie.Need-returns Inv-loop μ-loop

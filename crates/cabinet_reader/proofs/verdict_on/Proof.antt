@@ -53,7 +53,7 @@ returns-4 c =
     sym (read-5 (s .args .file .now) (s .args .entry) (is-marked d) (few e) (right f) (omega (arith, e .before .number-at .ensures)))
 
 flaw-of-requires : tie.Need-flaw-of-requires
-flaw-of-requires c κs = let e = c .before .before .before in (e .before .number-at .ensures, e .if2 .left, right (c .before))
+flaw-of-requires c κs = let e = c .before .before .before in (omega (arith, e .before .number-at .ensures), omega arith, right (c .before))
 
 returns-5 : tie.Need-returns-5
 returns-5 c =

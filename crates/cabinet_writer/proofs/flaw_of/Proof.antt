@@ -69,7 +69,7 @@ found c =
     let start = l t .loop .start in
     let e = t .tree-length .ensures in
     c .verdict-on .ensures
-    ∙ body-flaw (trees t) start (letters t (l t .loop .k)) (start + t .tree-length .result - start) (short t) (omega (arith, e, within t)) (omega (arith, e))
+    ∙ body-flaw (trees t) start (letters t (l t .loop .k)) (start + t .tree-length .result - start) (omega arith) (short t) (omega (arith, e, within t)) (omega (arith, e))
 
 returns : tie.Need-returns Inv-loop μ-loop
 returns c =

@@ -13,7 +13,7 @@ abbrev μ-loop : tie.MeasureT-loop
 μ-loop counts file₀ place₀ k₀ file place k = length counts - k
 
 loop-holds : tie.Need-loop-holds Inv-loop μ-loop
-loop-holds c = let s = c .before .before in (omega arith, entries-none (s .args .counts .now) (s .args .file .now))
+loop-holds c = let s = c .before .before in (omega arith, entries-none (s .args .counts .now) (s .args .file .now) (omega arith))
 
 put-entry-requires : tie.Need-put-entry-requires Inv-loop μ-loop
 put-entry-requires c κs =
