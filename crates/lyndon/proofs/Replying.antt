@@ -1,5 +1,6 @@
 -- From what a called function answers to what is replied.
-use mathlib.Core.Path.{_≡_, ap, _∙_}
+use mathlib.Core.Path.{_≡_, sym, ap, _∙_}
+use mathlib.Core.Logic.{_≢_}
 use mathlib.Core.List.{List}
 use Prim.Native.Nat.{ℕ}
 use lib.ListN.{length}
@@ -8,13 +9,17 @@ use Rattle.build.specs.declared.Built.{Built}
 use Rattle.build.specs.Built as build
 use Rattle.refusal.specs.declared.Verdict.{Verdict}
 use Rattle.refusal.specs.Numbers.{verdictNumber}
+use Rattle.refusal.specs.Conditions.{wordRefusal}
 use Rattle.brackets.specs.Answers as brackets
 use Rattle.questions.specs.Answers as questions
+use Rattle.word.specs.Word.{WordAnswered}
+use Rattle.word.proofs.Laws.{part-refused, start-refused, start-taken}
 use Rattle.cabinet.specs.Answers.{Written, EntryRead}
 use Rattle.lyndon.specs.declared.BuildReply.{BuildReply}
 use Rattle.lyndon.specs.declared.Reply.{Reply}
+use Rattle.lyndon.specs.declared.PartReply.{PartReply}
 use Rattle.lyndon.specs.declared.CabinetReply.{CabinetReply}
-use Rattle.lyndon.specs.Replies.{buildReply, BuildReplied, ReadReplied, WriteReplied, reply, cabinetReply}
+use Rattle.lyndon.specs.Replies.{buildReply, BuildReplied, ReadReplied, WriteReplied, reply, wordReply, cabinetReply}
 
 -- a build that answers with a, and a reply with the figures of a
 pub built :
@@ -34,12 +39,36 @@ pub written :
     → WriteReplied counts trees before after number
 written e z = record { replies = z ∙ e .answers; leaves = e .leaves }
 
--- an entry of a cabinet file read, and its figures
+-- the longest word asked for at j, refused and not, and its figures
+module _ {letters part : RefT (List ℕ)} {i j number : ℕ} (e : WordAnswered letters j number part) (z : j ≡ i) where
+  number-is : number ≡ wordRefusal (length (letters .now)) i
+  number-is = e .refusal ∙ ap (wordRefusal (length (letters .now))) z
+
+  pub word-refused : number ≢ 0 → _≡_ {A = PartReply} (record { refusal = number; start = 0; length = 0 }) (wordReply (letters .now) i)
+  word-refused q =
+      let h : wordRefusal (length (letters .now)) i ≢ 0 = λ w. q (number-is ∙ w) in
+      rw (number-is, part-refused (letters .now) i h, start-refused (letters .now) i h)
+
+  pub word-taken :
+      {start : ℕ} → start ≡ i → number ≡ 0
+      → _≡_ {A = PartReply} (record { refusal = 0; start = start; length = length (part .now) }) (wordReply (letters .now) i)
+  word-taken s q =
+      let h : wordRefusal (length (letters .now)) i ≡ 0 = sym number-is ∙ q in
+      rw (h, s, e .part, z, start-taken (letters .now) i h)
+
+-- entry j of a cabinet file read, and its figures
 pub entry-read :
-    {file part : RefT (List ℕ)} {entry number n at : ℕ} → EntryRead file entry number n at part
-    → _≡_ {A = CabinetReply} (record { refusal = number; letters = n; start = at; length = length (part .now) }) (cabinetReply (file .now) entry)
-entry-read e = rw (e .refusal, e .letters, e .place, e .body)
+    {file part : RefT (List ℕ)} {i j number n at start : ℕ} → EntryRead file j number n at part → j ≡ i → start ≡ at
+    → _≡_ {A = CabinetReply} (record { refusal = number; letters = n; start = start; length = length (part .now) }) (cabinetReply (file .now) i)
+entry-read e z s = rw (s, e .refusal, e .letters, e .place, e .body, z)
+
+-- the figures of an answer, as the called function tells them
+pub data Told (a : questions.Figures) : Type 0 where
+  told : {b : questions.Figures} → a ≡ b → Told a
+
+abbrev pub figures : {a : questions.Figures} → Told a → questions.Figures
+figures (told {b} e) = b
 
 -- a question
-pub answered : {given : Reply} {a b : questions.Figures} → given ≡ reply a → a ≡ b → given ≡ reply b
-answered z e = z ∙ ap reply e
+pub answered : {given : Reply} {a : questions.Figures} → given ≡ reply a → (t : Told a) → given ≡ reply (figures t)
+answered z (told e) = z ∙ ap reply e
