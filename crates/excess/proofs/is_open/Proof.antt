@@ -1,18 +1,21 @@
 -- `excess::is_open` meets its contract.
 use mathlib.Core.Path.{_≡_, sym, ap, _∙_}
 use mathlib.Core.Bool.{false}
-use Prim.Native.Nat.{ℕ, _^_, _%_}
+use Prim.Native.Nat.{ℕ, _^_, _/_, _%_}
 use native.Mathlib.Nat.{zero-div}
+use native.Mathlib.Omega.{arith}
 use borrow.Author.Needs.{needs}
 use lib.Dec.{eqb}
-use lib.ListN.{List·getD-eq-default}
+use lib.ListN.{getD, List·getD-eq-default}
 use Rattle.refusal.specs.Conditions.{byteBit, bitOf}
 use Rattle.excess.proofs.is_open.Statement.{statement}
 use Rattle.excess.proofs.is_open.Tie as tie
 
 returns : tie.Need-returns
 unfolding bitOf
-returns c = c .bit .ensures
+returns c =
+    let s = c .before .before .before .before .args in
+    c .bit .ensures ∙ ap (byteBit (getD (s .tree .now) (s .k / 8) 0)) (omega arith)
 
 -- a byte that is 0 has no bit
 no-bit : (m : ℕ) → byteBit 0 m ≡ false
