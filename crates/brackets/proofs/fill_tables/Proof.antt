@@ -136,9 +136,9 @@ module _ {n : ℕ} {t prev next : List ℕ} {top i k : ℕ} (F : Filling n t pre
       rw (F .count, z)
       (record { reading = read-open (bitOf t) n B (F .reading) more e; count = omega (arith, opens (bitOf t) k e) })
 
-  filled-close : bitOf t k ≡ false → Filling n t prev (set next top i) (getD prev top 0) i (k + 1)
-  filled-close e =
-      rw (F .count, z)
+  filled-close : {v : ℕ} → v ≡ i → bitOf t k ≡ false → Filling n t prev (set next top v) (getD prev top 0) i (k + 1)
+  filled-close q e =
+      rw (q, F .count, z)
       (record { reading = read-close (bitOf t) n B (F .reading) more e; count = sym (shuts (bitOf t) k e) })
 
 opened-here : (c : tie.Then2 Inv-loop2 μ-loop2 Inv-loop μ-loop) → bitOf (t (b (c .before))) (k (b (c .before))) ≡ true
@@ -201,7 +201,7 @@ loop2-less-2 : tie.Need-loop2-less-2 Inv-loop2 μ-loop2 Inv-loop μ-loop
 loop2-less-2 c = omega (arith, c .before .before .before .before .loop2-test .taken)
 
 loop2-again-2 : tie.Need-loop2-again-2 Inv-loop2 μ-loop2 Inv-loop μ-loop
-loop2-again-2 c = let a = c .before .before in next-bit (filled-close (F (b a)) (even (b a)) (more a) (closed-here (c .before))) (a .before .before .loop2-test .taken)
+loop2-again-2 c = let a = c .before .before in next-bit (filled-close (F (b a)) (even (b a)) (more a) (omega arith) (closed-here (c .before))) (a .before .before .loop2-test .taken)
 
 add-j : tie.Need-add-j Inv-loop2 μ-loop2 Inv-loop μ-loop
 add-j c = omega (arith, in-tree (c .before))
