@@ -19,16 +19,17 @@ module _ (file : List ℕ) (at v : ℕ) (h : at + 4 ≤ length file) where
   byte : (a : List ℕ) (x z b : ℕ) → length a ≡ length file → x < at + 4 → z ≡ x + 1 → Wrote a (set a x b) (b ∷ []) x z
   byte a x z b s w e = rw e (wrote-byte a x b (omega arith))
 
-  pub number-put :
-      Wrote file (set (set (set (set file at (v % 256)) (at + 1) (v / 256 % 256)) (at + 2) (v / 256 / 256 % 256)) (at + 3) (v / 256 / 256 / 256 % 256)) (fourBytes v) at (at + 4)
+  pub number-put : {a b c d : ℕ} → a ≡ v % 256 → b ≡ v / 256 % 256 → c ≡ v / 256 / 256 % 256 → d ≡ v / 256 / 256 / 256 % 256
+      → Wrote file (set (set (set (set file at a) (at + 1) b) (at + 2) c) (at + 3) d) (fourBytes v) at (at + 4)
   unfolding bytesOf
-  number-put =
-      wrote-then
+  number-put p q r s =
+      rw (p, q, r, s)
+      (wrote-then
       (wrote-then
       (wrote-then (byte file at (at + 1) (v % 256) refl (omega arith) refl)
       (byte _ (at + 1) (at + 2) (v / 256 % 256) (simp length-set) (omega arith) (omega arith)))
       (byte _ (at + 2) (at + 3) (v / 256 / 256 % 256) (simp length-set) (omega arith) (omega arith)))
-      (byte _ (at + 3) (at + 4) (v / 256 / 256 / 256 % 256) (simp length-set) (omega arith) (omega arith))
+      (byte _ (at + 3) (at + 4) (v / 256 / 256 / 256 % 256) (simp length-set) (omega arith) (omega arith)))
 
 -- k entries are put behind the entry count, and the next body's place is `place`
 pub record EntriesTo (counts before now : List ℕ) (k place : ℕ) : Type 0 where

@@ -16,7 +16,7 @@ slice-write-file-4 : tie.Need-slice-write-file-4
 slice-write-file-4 c = simp length-set (omega arith)
 
 returns : tie.Need-returns
-returns c = number-put (c .args .file .now) (c .args .at) (c .args .number) (c .pre)
+returns c = number-put (c .args .file .now) (c .args .at) (c .args .number) (c .pre) (omega arith) (omega arith) (omega arith) (omega arith)
 
 pub put-number-spec : {M : Type 1} → statement M
 put-number-spec =
