@@ -9,7 +9,7 @@ use lib.ListN.{length, take, drop}
 use borrow.Author.Needs.{needs}
 use Rattle.suffix.specs.Lyndon.{part}
 use Rattle.suffix.specs.Tree.{treeLength}
-use Rattle.cabinet.specs.File.{countOf, placeOf}
+use Rattle.cabinet.specs.File.{countOf, placeOf, lettersOf}
 use Rattle.cabinet.specs.Refusals.{readRefusal}
 use Rattle.cabinet.proofs.Conditions.{Accepted, taken, body-fits}
 use Rattle.refusal.proofs.Numbers.{unless-taken, unless-refused}
@@ -27,7 +27,7 @@ returns c =
     let h : readRefusal (s .args .file .now) (s .args .entry) ≢ 0 = λ e. c .before .if1 .taken (number v ∙ e) in
     record {
       refusal = number v;
-      letters = sym (unless-refused _ _ _ h);
+      letters = omega (arith, unless-refused (readRefusal (s .args .file .now) (s .args .entry)) (lettersOf (s .args .file .now) (s .args .entry)) 0 h);
       place = sym (unless-refused _ _ _ h);
       body = sym (unless-refused _ _ _ h);
       own = rw (unless-refused (readRefusal (s .args .file .now) (s .args .entry)) (placeOf (s .args .file .now) (s .args .entry)) 0 h, zero-add);
