@@ -76,7 +76,7 @@ module _ {n : ℕ} {t p x : List ℕ} (T : IsTreeOf n t p x) where
   no-flaw = flaw-0 n t (spare-clear n t (T .spare)) (not-early n t (is-balanced .above)) (all-closed n t (omega (arith, is-balanced .closed)))
 
 pub treesAreAccepted : TreesAreAccepted
-treesAreAccepted n t p x h T = tree-flaw n t h (T .bytes) ∙ no-flaw T
+treesAreAccepted n t p x h T = tree-flaw n t (omega arith) (T .bytes) ∙ no-flaw T
 
 pub tablesAreOne : TablesAreOne
 tablesAreOne n t p x T = (
