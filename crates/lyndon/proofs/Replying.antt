@@ -62,7 +62,8 @@ pub entry-read :
     → _≡_ {A = CabinetReply} (record { refusal = number; letters = n; start = start; length = length (part .now) }) (cabinetReply (file .now) i)
 entry-read e z s = rw (s, e .refusal, e .letters, e .place, e .body, z)
 
--- the figures of an answer, as the called function tells them
+-- What the called function tells of its answer's figures. It is found first and compared with the reply afterwards, so a function that asks
+-- another question is refused by the names of the two answers.
 pub data Told (a : questions.Figures) : Type 0 where
   told : {b : questions.Figures} → a ≡ b → Told a
 
