@@ -64,7 +64,8 @@ uint32_t lyndon_version(void);
 #define LYNDON_MAX_ENTRIES 64
 
 /* The length in bytes of the tree of n positions, ceil(n / 4), and of a cabinet file of so many entries, whose trees have so many
- * bytes in all. Of constants they are constants; else the arguments are best of type size_t. n is evaluated twice. */
+ * bytes in all. Of constants they are constants, so that they serve as sizes of arrays (but for n = 0, of which C has none); else
+ * the arguments are best of type size_t. n is evaluated twice. */
 #define LYNDON_TREE_BYTES(n) ((n) / 4 + ((n) % 4 != 0))
 #define LYNDON_CABINET_BYTES(entries, trees_length) (8 + 8 * (entries) + (trees_length))
 
