@@ -71,6 +71,11 @@ fn the_readme_shows_the_output_that_the_program_is_held_to() {
     );
 }
 
+/// What stands between single backquotes, in order.
+fn quoted(text: &str) -> impl Iterator<Item = &str> {
+    text.split('`').skip(1).step_by(2)
+}
+
 /// The edits that must fail, each as its crate's name, a slash and its own.
 fn edits() -> BTreeSet<String> {
     let inside = |path: &Path| std::fs::read_dir(path).into_iter().flatten().flatten();
@@ -90,12 +95,9 @@ fn the_guarantees_name_every_edit_and_only_what_is_there() {
     let page = text_of("docs/GUARANTEES.md");
     let edits = edits();
     assert!(!edits.is_empty(), "no edits found");
-    let paths: BTreeSet<String> = page
-        .split('`')
-        .skip(1)
-        .step_by(2)
-        .filter(|quoted| quoted.contains('/') || quoted.ends_with(".antt"))
-        .filter(|quoted| !quoted.contains(' '))
+    let paths: BTreeSet<String> = quoted(&page)
+        .filter(|name| name.contains('/') || name.ends_with(".antt"))
+        .filter(|name| !name.contains(' '))
         .map(String::from)
         .collect();
     let unnamed: Vec<_> = edits.difference(&paths).collect();
@@ -106,4 +108,30 @@ fn the_guarantees_name_every_edit_and_only_what_is_there() {
             .any(|folder| folder.join(path).exists());
         assert!(found, "{path} is not there");
     }
+}
+
+#[test]
+fn the_guarantees_name_each_statement_beside_its_file() {
+    let page = text_of("docs/GUARANTEES.md");
+    let mut statements = 0;
+    for row in page.lines().filter(|line| line.starts_with('|')) {
+        let files: Vec<String> = quoted(row)
+            .filter(|name| name.ends_with(".antt"))
+            .map(|name| text_of(&format!("crates/{name}")))
+            .collect();
+        // The names of records and claims begin with a capital letter.
+        let is_statement = |name: &&str| name.starts_with(|c: char| c.is_ascii_uppercase());
+        for name in quoted(row)
+            .filter(is_statement)
+            .filter(|_| !files.is_empty())
+        {
+            let name = name.split('.').next().expect("a first part");
+            assert!(
+                files.iter().any(|file| file.contains(name)),
+                "{name}: {row}"
+            );
+            statements += 1;
+        }
+    }
+    assert!(statements > 0, "no statement found");
 }
