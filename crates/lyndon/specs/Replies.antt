@@ -15,7 +15,7 @@ use Rattle.lyndon.specs.declared.Reply.{Reply}
 use Rattle.lyndon.specs.declared.PartReply.{PartReply}
 use Rattle.lyndon.specs.declared.CabinetReply.{CabinetReply}
 
--- the version of the exported structures and functions: it rises with every change of one of them
+-- the version of the exported structures and functions: it rises with every change of one of them, of what it answers too
 abbrev pub interfaceVersion : ℕ
 interfaceVersion = 1
 
