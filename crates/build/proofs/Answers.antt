@@ -5,13 +5,13 @@ use mathlib.Core.List.{List}
 use Prim.Native.Nat.{ℕ, _≤_}
 use native.Mathlib.Omega.{arith}
 use lib.ListN.{length}
-use borrow.Author.Tests.{ltb-false, eqb-true, not-false, eq-eqb, ne-eqb}
+use borrow.Author.Tests.{eq-eqb, ne-eqb}
 use Rattle.suffix.specs.Rows.{tablesAfter, reach}
 use Rattle.suffix.specs.Tree.{treeLength, treeBytes}
 use Rattle.refusal.specs.declared.Refusal.{Refusal}
-use Rattle.refusal.specs.Numbers.{numberOf, lowest}
-use Rattle.refusal.specs.Conditions.{buildRefusal}
-use Rattle.refusal.proofs.Numbers.{positive, none-applies, neither}
+use Rattle.refusal.specs.Numbers.{numberOf}
+use Rattle.refusal.proofs.Numbers.{positive}
+use Rattle.refusal.proofs.Tables.{build-taken}
 use Rattle.reuse.specs.Steps.{BuildState, afterRows, equalComparisons, unequalComparisons}
 use Rattle.reuse.specs.Claims.{Exact}
 use Rattle.reuse.proofs.Exact.{exact}
@@ -62,24 +62,11 @@ module _ (letters : List ℕ) (R : ℕ) (before : Lent) where
 
   module _ (taken : refusalOf letters R before ≡ 0) where
     pub accepted : Accepted
-    unfolding refusalOf buildRefusal lowest
+    unfolding refusalOf
     accepted =
-        let a = none-applies 0 _ _ taken in
-        let b = none-applies 1 _ _ (a .1) in
-        let c = none-applies 2 _ _ (b .1) in
-        let d = none-applies 3 _ _ (c .1) in
-        let v = neither _ _ (b .0) in
-        let u = neither _ _ (v .0) in
-        let p = neither _ _ (u .0) in
-        record {
-          few = ltb-false _ _ (a .0);
-          previous = eqb-true _ _ (not-false _ (p .0));
-          next = eqb-true _ _ (not-false _ (p .1));
-          previousMatch = eqb-true _ _ (not-false _ (u .1));
-          nextMatch = eqb-true _ _ (not-false _ (v .1));
-          tree = eqb-true _ _ (not-false _ (c .0));
-          rows = ltb-false _ _ (d .0);
-        }
+        let a = build-taken _ _ _ _ _ R (length (before .tree)) taken in
+        let u = a .0 in
+        record { few = u .few; previous = u .previous; next = u .next; previousMatch = u .previousMatch; nextMatch = u .nextMatch; tree = a .1; rows = a .2 }
 
     module _ (s : State) (after : Lent) (i : buildState s (after .tables) ≡ afterRows letters R) (q : after .tree ≡ treeBytes letters R)
         {report : Report} (told : Told s report) where

@@ -8,7 +8,7 @@ use native.Mathlib.Omega.{arith}
 use mir.Syntax.{w64}
 use mir.Val.{Fits}
 use lib.Dec.{ltb}
-use lib.ListN.{length, getD, set, replicate}
+use lib.ListN.{length, getD, set, take, replicate, length-set}
 use lib.Seq.{getD-set-same}
 use Rattle.suffix.specs.Search.{countBelow}
 use Rattle.suffix.specs.Nearest.{previous}
@@ -28,6 +28,7 @@ use Rattle.build.specs.declared.State.{State}
 use Rattle.build.specs.declared.SettledPair as declared
 use Rattle.build.specs.States.{progressOf, pairOf, tablesOf, clearedFrom, clearedTables, buildState, Safe, settledFrom}
 use Rattle.build.proofs.Clearing.{cleared-length, cleared-get, next-recorded, row-recorded, previous-none, all-cleared}
+use Rattle.build.proofs.Parts.{replicate-part, part-room, part-raised}
 use Rattle.build.proofs.Settling.{reads-before}
 use Rattle.build.proofs.Walking.{standing, Going, starts, settles, left-ends, none-ends, less-ends, goes-on}
 
@@ -43,7 +44,7 @@ pub record AtRows (y : List ℕ) (rows : ℕ) (s : State) (t : Tables) (p v : �
   pub entry-fits : p ≤ length y
   pub match-fits : v ≤ length y
   pub sizes : Sizes y t
-  pub written : tree ≡ treeBytes y (s .rows - 1)
+  pub written : tree ≡ take (length tree) (treeBytes y (s .rows - 1))
   -- the place of that bit
   pub at : bit + level y (s .rows - 1) + 1 ≡ s .rows + s .rows
 
@@ -55,7 +56,7 @@ pub record AtWalk (y : List ℕ) (rows r : ℕ) (s : State) (t : Tables) (tree :
   pub going : Going y r (standing known (progressOf s) (clearedTables (length y) r t) l m)
   pub before : l < r
   pub sizes : Sizes y t
-  pub written : tree ≡ treeBytes y r
+  pub written : tree ≡ take (length tree) (treeBytes y r)
   -- the bits of the rows before, and the closings up to l
   pub at : bit + level y l ≡ r + r
 
@@ -71,7 +72,7 @@ sizes-of y k t S =
     }
 
 at-rows : (y : List ℕ) (rows r : ℕ) (s : State) (t : Tables) (p v : ℕ) (tree : List ℕ) (bit : ℕ) → r < rows → rows ≤ length y → s .rows ≡ r + 1
-    → buildState s (recordPrevious (clearedTables (length y) r t) r p v) ≡ afterRows y (suc r) → p ≤ length y → v ≤ length y → Sizes y t → tree ≡ treeBytes y r
+    → buildState s (recordPrevious (clearedTables (length y) r t) r p v) ≡ afterRows y (suc r) → p ≤ length y → v ≤ length y → Sizes y t → tree ≡ take (length tree) (treeBytes y r)
     → bit + level y r ≡ suc (r + r) → AtRows y rows s t p v tree bit
 at-rows y rows r s t p v tree bit h n k e a b S q c =
     let z : s .rows ≡ suc r = omega arith in
@@ -96,12 +97,17 @@ module _ (y : List ℕ) (t : Tables) (S : Sizes y t) where
   unfolding afterRows start
   no-rows = rw cleared
 
-  pub first-row : (rows : ℕ) (tree : List ℕ) → 0 < rows → rows ≤ length y → tree ≡ replicate (treeLength (length y)) 0
-      → AtRows y rows (record { reach = 1; shift = 0; rows = 1; equal = 0; unequal = 0 }) t (length y) 0 tree 0
+  -- no bit is set in a tree that is cleared
+  pub no-bits : (tree : List ℕ) → length tree ≤ treeLength (length y) → tree ≡ replicate (length tree) 0 → tree ≡ take (length tree) (treeBytes y 0)
+  no-bits tree h q = q ∙ sym (replicate-part (length tree) (treeLength (length y)) 0 h) ∙ ap (take (length tree)) (bytes.no-bytes y)
+
+  pub first-row : (rows none : ℕ) (tree : List ℕ) → 0 < rows → rows ≤ length y → none ≡ length y → length tree ≤ treeLength (length y) → tree ≡ replicate (length tree) 0
+      → AtRows y rows (record { reach = 1; shift = 0; rows = 1; equal = 0; unequal = 0 }) t none 0 tree 0
   unfolding afterRows start unclosed countBelow
-  first-row rows tree h n q =
-      at-rows y rows 0 _ t (length y) 0 tree 0 h n refl (rw (previous-none (length y) t, cleared)) (omega arith) (omega arith) S (q ∙ bytes.no-bytes y)
-      (omega (arith, level-suc y 0 (omega arith), level-is y 0 (omega arith)))
+  first-row rows none tree h n e k q =
+      rw e
+      (at-rows y rows 0 _ t (length y) 0 tree 0 h n refl (rw (previous-none (length y) t, cleared)) (omega arith) (omega arith) S (no-bits tree k q)
+      (omega (arith, level-suc y 0 (omega arith), level-is y 0 (omega arith))))
 
 module _ {y : List ℕ} {rows : ℕ} {s : State} {t : Tables} {p v : ℕ} {tree : List ℕ} {bit : ℕ} (A : AtRows y rows s t p v tree bit) where
   last : s .rows - 1 < length y
@@ -113,16 +119,21 @@ module _ {y : List ℕ} {rows : ℕ} {s : State} {t : Tables} {p v : ℕ} {tree 
   pub one-more : length y ≤ 1000000 → Fits w64 (s .rows + 1)
   one-more n = omega (arith, A .most, A .fits)
 
-  pub byte-in : bit / 8 < length tree
-  byte-in = rw (A .written) (omega (arith, bytes.byte-in y (s .rows - 1) bit last place, bytes.bytes-length y (s .rows - 1)))
+  abbrev before : List ℕ
+  before = treeBytes y (s .rows - 1)
 
-  pub byte-room : getD tree (bit / 8) 0 + 2 ^ (bit % 8) < 256
-  byte-room = rw (A .written) (bytes.byte-room y (s .rows - 1) bit last place)
+  pub byte-room : bit / 8 < length tree → getD tree (bit / 8) 0 + 2 ^ (bit % 8) < 256
+  byte-room h =
+      let w = A .written in
+      let z : bit / 8 < length (take (length tree) before) = omega (arith, ap length w) in
+      omega (arith, ap (λ u. getD u (bit / 8) 0) w, part-room (length tree) before (bit / 8) (2 ^ (bit % 8)) (bytes.byte-room y (s .rows - 1) bit last place) z)
 
-  pub bit-set : set tree (bit / 8) (getD tree (bit / 8) 0 + 2 ^ (bit % 8)) ≡ treeBytes y (s .rows)
-  bit-set =
+  pub bit-set : {tree′ : List ℕ} → tree′ ≡ set tree (bit / 8) (getD tree (bit / 8) 0 + 2 ^ (bit % 8)) → tree′ ≡ take (length tree′) (treeBytes y (s .rows))
+  bit-set q =
       let z : suc (s .rows - 1) ≡ s .rows = omega (arith, A .pos) in
-      rw (A .written) (bytes.tree-set y (s .rows - 1) bit last place ∙ ap (treeBytes y) z)
+      q ∙ ap (λ u. set u (bit / 8) (getD u (bit / 8) 0 + 2 ^ (bit % 8))) (A .written) ∙ part-raised (length tree) before (bit / 8) (2 ^ (bit % 8))
+      ∙ ap (take (length tree)) (bytes.tree-set y (s .rows - 1) bit last place ∙ ap (treeBytes y) z)
+      ∙ ap (λ k. take k (treeBytes y (s .rows))) (sym (ap length q ∙ length-set tree (bit / 8) (getD tree (bit / 8) 0 + 2 ^ (bit % 8))))
 
   -- the row's entries are recorded in t′
   pub rows-are-done : {t′ : Tables} → t′ ≡ recordNext (recordPrevious t (s .rows - 1) p v) (s .rows - 1) (length y) 0 → (k : ℕ) → s .rows ≡ k
@@ -137,7 +148,7 @@ module _ {y : List ℕ} {rows : ℕ} {s : State} {t : Tables} {p v : ℕ} {tree 
 -- ---- the walk
 
 at-walk : (y : List ℕ) (rows r : ℕ) (s : State) (t : Tables) (tree : List ℕ) (bit l m : ℕ) (known : Bool) → r < rows → rows ≤ length y → s .rows ≡ r + 1
-    → Going y r (standing known (progressOf s) (clearedTables (length y) r t) l m) → tree ≡ treeBytes y r → bit + level y l ≡ r + r → AtWalk y rows r s t tree bit l m known
+    → Going y r (standing known (progressOf s) (clearedTables (length y) r t) l m) → tree ≡ take (length tree) (treeBytes y r) → bit + level y l ≡ r + r → AtWalk y rows r s t tree bit l m known
 at-walk y rows r s t tree bit l m known h n k G q b = go known (G .holds)
   where
     make : l < r → Sizes y (clearedTables (length y) r t) → AtWalk y rows r s t tree bit l m known
@@ -153,7 +164,7 @@ pub begins : {y : List ℕ} {rows : ℕ} {s : State} {t : Tables} {p v : ℕ} {t
     → AtWalk y rows (s .rows) (record { reach = s .reach; shift = s .shift; rows = s .rows + 1; equal = s .equal; unequal = s .unequal }) t′ tree′ (bit + 1) (s .rows - 1) 0 false
 begins {y} {rows} {s} {t} {p} {v} {tree} {bit} A h {t′} w {tree′} q =
     at-walk y rows (s .rows) _ t′ tree′ (bit + 1) (s .rows - 1) 0 false h (A .fits) refl
-    (starts y (s .rows) (omega (arith, A .fits)) (buildState s (clearedTables (length y) (s .rows) t′)) (A .pos) (rows-are-done A w (s .rows) refl)) (q ∙ bit-set A)
+    (starts y (s .rows) (omega (arith, A .fits)) (buildState s (clearedTables (length y) (s .rows) t′)) (A .pos) (rows-are-done A w (s .rows) refl)) (bit-set A q)
     (omega (arith, A .at))
 
 module _ {y : List ℕ} {rows r : ℕ} {s : State} {t : Tables} {tree : List ℕ} {bit l m : ℕ} {known : Bool} (W : AtWalk y rows r s t tree bit l m known) where

@@ -1,5 +1,7 @@
+pub mod Alone
 pub mod Answers
 pub mod Clearing
+pub mod Parts
 pub mod Invariants
 pub mod Settling
 pub mod Walking

@@ -1,5 +1,5 @@
 -- Steps 1 and 2 as the code goes them.
-use mathlib.Core.Path.{_≡_, refl, sym, ap, _∙_}
+use mathlib.Core.Path.{_≡_, refl, sym, ap, ap₂, _∙_}
 use mathlib.Core.Logic.{_≢_}
 use mathlib.Core.Bool.{Bool, true, false}
 use mathlib.Core.List.{List, []}
@@ -33,15 +33,19 @@ module _ (y : List ℕ) (s : Progress) (l r m : ℕ) {whole : SettledPair} (is :
     left : length y - (r + m) ≡ suc (length y - (r + (m + 1)))
     left = omega arith
 
-    pub at-equal : {equal : ℕ} → getD y (l + m) 0 ≡ getD y (r + m) 0 → equal ≡ s .equal + 1
+    -- the ranks that are compared
+    pub at-equal : {equal : ℕ} (a b : ℕ) → a ≡ getD y (l + m) 0 → b ≡ getD y (r + m) 0 → a ≡ b → equal ≡ s .equal + 1
         → whole ≡ scanFrom y (record { reach = s .reach; shift = s .shift; equal = equal; unequal = s .unequal }) l r (m + 1)
     unfolding scanFrom
-    at-equal e q = is ∙ rw (left, q) (scan-equal y l r m (length y - (r + (m + 1))) (s .equal) (s .unequal) e ∙ rw (add-one m, add-one (s .equal)))
+    at-equal a b p q e w =
+        is ∙ rw (left, w) (scan-equal y l r m (length y - (r + (m + 1))) (s .equal) (s .unequal) (sym p ∙ e ∙ q) ∙ rw (add-one m, add-one (s .equal)))
 
-    pub at-unequal : {u : SettledPair} → getD y (l + m) 0 ≢ getD y (r + m) 0
-        → {equal unequal : ℕ} → u ≡ stopped l r m equal unequal (ltb (getD y (l + m) 0) (getD y (r + m) 0)) → equal ≡ s .equal → unequal ≡ s .unequal + 1 → u ≡ whole
+    pub at-unequal : {u : SettledPair} (a b : ℕ) → a ≡ getD y (l + m) 0 → b ≡ getD y (r + m) 0 → a ≢ b
+        → {equal unequal : ℕ} → u ≡ stopped l r m equal unequal (ltb a b) → equal ≡ s .equal → unequal ≡ s .unequal + 1 → u ≡ whole
     unfolding scanFrom
-    at-unequal e q v w = q ∙ same-pair refl refl v w ∙ sym (is ∙ rw (left, add-one (s .unequal)) (scan-unequal y l r m (length y - (r + (m + 1))) (s .equal) (s .unequal) e))
+    at-unequal a b p q e w v x =
+        w ∙ same-pair refl refl v x ∙ ap₂ (λ i j. stopped l r m (s .equal) (s .unequal + 1) (ltb i j)) p q
+        ∙ sym (is ∙ rw (left, add-one (s .unequal)) (scan-unequal y l r m (length y - (r + (m + 1))) (s .equal) (s .unequal) (λ z. e (p ∙ z ∙ sym q))))
 
 -- ---- a pair of which nothing is known: x is next[l - d], and v the match that is recorded
 

@@ -1,15 +1,16 @@
 -- Demand 3: what a build answers, and what it leaves in the memory that is lent to it.
 use mathlib.Core.Path.{_≡_}
-use mathlib.Core.Bool.{true, false}
+use mathlib.Core.Bool.{Bool, true, false}
 use mathlib.Core.List.{List}
 use Prim.Native.Nat.{ℕ, _+_, _-_, _*_, _≤_, _<_}
 use lib.Dec.{eqb}
 use lib.ListN.{length}
-use Rattle.suffix.specs.Ranks.{ranks}
+use Rattle.suffix.specs.Ranks.{ranks, oriented}
 use Rattle.suffix.specs.Rows.{Tables, tablesAfter, reach}
 use Rattle.suffix.specs.Tree.{treeBytes}
-use Rattle.refusal.specs.Numbers.{numberOf}
-use Rattle.refusal.specs.Conditions.{buildRefusal}
+use Rattle.refusal.specs.declared.Verdict.{Verdict}
+use Rattle.refusal.specs.Numbers.{numberOf, verdictNumber, unlessRefused}
+use Rattle.refusal.specs.Conditions.{buildRefusal, tablesRefusal}
 use Rattle.reuse.specs.Steps.{equalComparisons, unequalComparisons, comparisons}
 use Rattle.build.specs.declared.Built.{Built}
 use Rattle.build.specs.declared.Built.the-variants.{Finished, Halted, Refused}
@@ -79,3 +80,13 @@ pub record BuiltExactly (letters : List ℕ) (R : ℕ) (before after : Lent) (bu
   pub answers : figuresOf built ≡ answer letters R before
   pub leaves : after ≡ lentAtExit letters R before
   pub bounded : Bounded letters R before
+
+-- ---- the four tables of all letters alone, in the order of the letters or in its reverse: what T-03 and T-06 of document 02 work with
+
+-- the refusal over these tables, or 0
+unfoldable pub tablesRefusalOf : List ℕ → Tables → ℕ
+tablesRefusalOf letters t = tablesRefusal (length letters) (length (t .previous)) (length (t .next)) (length (t .previousMatch)) (length (t .nextMatch))
+
+pub record TablesBuilt (letters : List ℕ) (reverse : Bool) (before after : Tables) (verdict : Verdict) : Type 0 where
+  pub answers : verdictNumber verdict ≡ tablesRefusalOf letters before
+  pub leaves : after ≡ unlessRefused (tablesRefusalOf letters before) (tablesAfter (oriented reverse (ranks letters)) (length letters)) before

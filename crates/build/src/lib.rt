@@ -3,11 +3,12 @@ ghost use mathlib.Core.Path.{_≡_};
 ghost use mathlib.Core.Bool.{false};
 ghost use mathlib.Core.List.{[]};
 ghost use Prim.Native.Nat.{_+_, _-_, _/_, _%_, _^_, _≤_, _<_};
-ghost use lib.ListN.{length, getD, set, replicate};
+ghost use lib.ListN.{length, getD, set, take, replicate};
+ghost use Rattle.suffix.specs.Ranks.{ranks, oriented};
 ghost use Rattle.suffix.specs.Tree.{treeLength, treeBytes};
 ghost use Rattle.reuse.specs.Steps.{scanFrom, afterRows};
 ghost use Rattle.build.specs.States.{progressOf, pairOf, tablesOf, clearedFrom, clearedTables, buildState, Safe, settledFrom};
-ghost use Rattle.build.specs.Built.{lent, BuiltExactly};
+ghost use Rattle.build.specs.Built.{lent, BuiltExactly, TablesBuilt};
 use refusal::Refusal;
 use refusal::Verdict;
 
@@ -56,6 +57,18 @@ fn read(table: &[u32], i: usize) -> usize
     wide(table[i])
 }
 
+// The rank of the letter at i, in the order of the letters or in its reverse.
+fn rank_at(letters: &[u8], reverse: bool, i: usize) -> u32
+    requires { ⌜ i < length (now letters) ⌝ }
+    ensures { λ r. ⌜ r ≡ getD (oriented reverse (ranks (now (letters .entry)))) i 0 ⌝ }
+{
+    let rank = suffix::rank(letters[i]) as u32;
+    if reverse {
+        return 4294967295 - rank;
+    }
+    rank
+}
+
 // table[i] = value with match m.
 fn record_entry(table: &mut [u32], matches: &mut [u32], i: usize, value: usize, m: usize)
     requires { ⌜ (i < length (now table)) × (i < length (now matches)) × (value ≤ 1000000) × (m ≤ 1000000) ⌝ }
@@ -81,16 +94,16 @@ impl State {
         }
     }
 
-    // Step 1: compares letters[l + m] with letters[r + m], raising m while they are equal.
-    fn scan(mut self, letters: &[u8], l: usize, r: usize, from: usize) -> SettledPair
+    // Step 1: compares the letters at l + m and r + m, raising m while they are equal.
+    fn scan(mut self, letters: &[u8], reverse: bool, l: usize, r: usize, from: usize) -> SettledPair
         requires { ⌜ (l < r) × (r + from ≤ length (now letters)) × (length (now letters) ≤ 1000000) × (self .equal ≤ 1000000) × (self .unequal ≤ 2000000) ⌝ }
-        ensures { λ u. ⌜ pairOf u ≡ scanFrom (now (letters .entry)) (progressOf self) l r from ⌝ }
+        ensures { λ u. ⌜ pairOf u ≡ scanFrom (oriented reverse (ranks (now (letters .entry)))) (progressOf self) l r from ⌝ }
         ensures { λ u. ⌜ u .state .rows ≡ self .rows ⌝ }
     {
         let mut m = from;
         while r + m < letters.len() {
-            let a = letters[l + m];
-            let b = letters[r + m];
+            let a = rank_at(letters, reverse, l + m);
+            let b = rank_at(letters, reverse, r + m);
             if a != b {
                 self.unequal += 1;
                 return self.stop(l, r, m, a < b);
@@ -107,6 +120,7 @@ impl State {
     fn settle(
         self,
         letters: &[u8],
+        reverse: bool,
         next: &[u32],
         previous_match: &[u32],
         next_match: &[u32],
@@ -120,7 +134,7 @@ impl State {
         requires { ⌜ (known ≡ false → Safe (length (now letters)) (progressOf self) l r m) ⌝ }
         ensures { λ u.
             ⌜ pairOf u
-            ≡ settledFrom known (now (letters .entry)) (progressOf self)
+            ≡ settledFrom known (oriented reverse (ranks (now (letters .entry)))) (progressOf self)
             (tablesOf [] (now (next .entry)) (now («previous_match» .entry)) (now («next_match» .entry)))
             l
             r
@@ -159,22 +173,26 @@ impl State {
             }
             from = self.reach - r;
         }
-        self.scan(letters, l, r, from)
+        self.scan(letters, reverse, l, r, from)
     }
 }
 
-// Sets bit k, which is 0.
+// Sets bit k, which is 0, where the tree has it.
 fn set_bit(tree: &mut [u8], k: usize)
-    requires { ⌜ (k / 8 < length (now tree)) × (getD (now tree) (k / 8) 0 + 2 ^ (k % 8) < 256) ⌝ }
+    requires { ⌜ (k / 8 < length (now tree) → getD (now tree) (k / 8) 0 + 2 ^ (k % 8) < 256) ⌝ }
     ensures { λ _. ⌜ now (tree .exit) ≡ set (now (tree .entry)) (k / 8) (getD (now (tree .entry)) (k / 8) 0 + 2 ^ (k % 8)) ⌝ }
 {
-    let weight = 1u8 << (k % 8);
-    tree[k / 8] = tree[k / 8] + weight;
+    if k / 8 < tree.len() {
+        let weight = 1u8 << (k % 8);
+        tree[k / 8] = tree[k / 8] + weight;
+    }
 }
 
-// All rows, over a tree that is cleared. What they have not written in the tables is left as it is.
+// All rows, over a tree that is cleared. What they have not written in the tables is left as it is. The tree may be shorter than the
+// letters ask for, or empty: it is written as far as it goes.
 fn build_rows(
     letters: &[u8],
+    reverse: bool,
     rows: usize,
     previous: &mut [u32],
     next: &mut [u32],
@@ -184,12 +202,12 @@ fn build_rows(
 ) -> State
     requires { ⌜ (length (now letters) ≤ 1000000) × (rows ≤ length (now letters)) ⌝ }
     requires { ⌜ (length (now previous) ≡ length (now letters)) × (length (now next) ≡ length (now letters)) × (length (now «previous_match») ≡ length (now letters)) × (length (now «next_match») ≡ length (now letters)) ⌝ }
-    requires { ⌜ now tree ≡ replicate (treeLength (length (now letters))) 0 ⌝ }
+    requires { ⌜ (length (now tree) ≤ treeLength (length (now letters))) × (now tree ≡ replicate (length (now tree)) 0) ⌝ }
     ensures { λ s.
         ⌜ buildState s
         (clearedTables (length (now (letters .entry))) rows (tablesOf (now (previous .exit)) (now (next .exit)) (now («previous_match» .exit)) (now («next_match» .exit))))
-        ≡ afterRows (now (letters .entry)) rows ⌝ }
-    ensures { λ s. ⌜ now (tree .exit) ≡ treeBytes (now (letters .entry)) rows ⌝ }
+        ≡ afterRows (oriented reverse (ranks (now (letters .entry)))) rows ⌝ }
+    ensures { λ s. ⌜ now (tree .exit) ≡ take (length (now (tree .entry))) (treeBytes (oriented reverse (ranks (now (letters .entry)))) rows) ⌝ }
     ensures { λ s. ⌜ s .rows ≡ rows ⌝ }
 {
     if rows == 0 {
@@ -228,7 +246,17 @@ fn build_rows(
         let mut m = 0;
         let mut known = false;
         'walk: loop {
-            let pair = state.settle(letters, next, previous_match, next_match, l, r, m, known);
+            let pair = state.settle(
+                letters,
+                reverse,
+                next,
+                previous_match,
+                next_match,
+                l,
+                r,
+                m,
+                known,
+            );
             state = pair.state;
             m = pair.matched;
             if pair.left_smaller {
@@ -330,6 +358,7 @@ pub fn build(
     clear_tree(tree);
     let state = build_rows(
         letters,
+        false,
         rows,
         previous,
         next,
@@ -348,4 +377,44 @@ pub fn build(
         return Built::Finished(report);
     }
     Built::Halted(report)
+}
+
+// Builds the four tables of all letters and no tree, in the order of the letters or in its reverse. A refusal writes nothing.
+pub fn build_tables(
+    letters: &[u8],
+    reverse: bool,
+    previous: &mut [u32],
+    next: &mut [u32],
+    previous_match: &mut [u32],
+    next_match: &mut [u32],
+) -> Verdict
+    ensures { λ r.
+        ⌜ TablesBuilt (now (letters .entry)) reverse
+        (tablesOf (now (previous .entry)) (now (next .entry)) (now («previous_match» .entry)) (now («next_match» .entry)))
+        (tablesOf (now (previous .exit)) (now (next .exit)) (now («previous_match» .exit)) (now («next_match» .exit)))
+        r ⌝ }
+{
+    let n = letters.len();
+    let verdict = refusal::tables_verdict(
+        n,
+        previous.len(),
+        next.len(),
+        previous_match.len(),
+        next_match.len(),
+    );
+    if let Verdict::Refused(refusal) = verdict {
+        return Verdict::Refused(refusal);
+    }
+    let mut no_tree = [0u8; 0];
+    build_rows(
+        letters,
+        reverse,
+        n,
+        previous,
+        next,
+        previous_match,
+        next_match,
+        &mut no_tree,
+    );
+    Verdict::Accepted
 }

@@ -14,12 +14,15 @@ use Rattle.brackets.specs.Answers as brackets
 use Rattle.questions.specs.Answers as questions
 use Rattle.word.specs.Word.{WordAnswered}
 use Rattle.word.proofs.Laws.{part-refused, start-refused, start-taken}
+use Rattle.repeats.specs.Refusals.{Lists}
+use Rattle.runs.specs.declared.Answer as runs
+use Rattle.runs.specs.Reported.{answerOf, Reported}
 use Rattle.cabinet.specs.Answers.{Written, EntryRead}
 use Rattle.lyndon.specs.declared.BuildReply.{BuildReply}
 use Rattle.lyndon.specs.declared.Reply.{Reply}
 use Rattle.lyndon.specs.declared.PartReply.{PartReply}
 use Rattle.lyndon.specs.declared.CabinetReply.{CabinetReply}
-use Rattle.lyndon.specs.Replies.{buildReply, BuildReplied, ReadReplied, WriteReplied, reply, wordReply, cabinetReply}
+use Rattle.lyndon.specs.Replies.{buildReply, BuildReplied, ReadReplied, WriteReplied, RunsReplied, reply, wordReply, runsReply, cabinetReply}
 
 -- a build that answers with a, and a reply with the figures of a
 pub built :
@@ -73,3 +76,9 @@ figures (told {b} e) = b
 -- a question
 pub answered : {given : Reply} {a : questions.Figures} → given ≡ reply a → (t : Told a) → given ≡ reply (figures t)
 answered z (told e) = z ∙ ap reply e
+
+-- a report of all runs that answers with a, and a reply with its figures
+pub runs-reported :
+    {letters : List ℕ} {work workExit : List (List ℕ)} {lists listsExit : Lists} {a : runs.Answer} {given : Reply} → Reported letters work lists workExit listsExit a
+    → given ≡ runsReply (answerOf a) → RunsReplied letters work lists workExit listsExit given
+runs-reported e z = record { replies = z ∙ ap runsReply (e .answers); leaves-lists = e .leaves-lists; leaves-work = e .leaves-work }

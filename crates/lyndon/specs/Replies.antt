@@ -8,6 +8,8 @@ use Rattle.build.specs.Built as build
 use Rattle.brackets.specs.Answers as brackets
 use Rattle.questions.specs.Answers as questions
 use Rattle.word.specs.Word.{wordPart, wordStart}
+use Rattle.repeats.specs.Refusals.{Lists}
+use Rattle.repeats.specs.Answers as repeats
 use Rattle.cabinet.specs.Refusals.{writeRefusal, readRefusal}
 use Rattle.cabinet.specs.Answers.{writtenFile, readBody, readPlace, readLetters}
 use Rattle.lyndon.specs.declared.BuildReply.{BuildReply}
@@ -45,6 +47,16 @@ reply (questions.refused number) = record { refusal = number; value = 0 }
 abbrev pub wordReply : List ℕ → ℕ → PartReply
 wordReply letters position =
     record { refusal = wordRefusal (length letters) position; start = wordStart letters position; length = length (wordPart letters position) }
+
+-- the report of all runs: their number
+unfoldable pub runsReply : repeats.Answer → Reply
+runsReply (repeats.found number) = record { refusal = 0; value = number }
+runsReply (repeats.refused number) = record { refusal = number; value = 0 }
+
+pub record RunsReplied (letters : List ℕ) (work : List (List ℕ)) (lists : Lists) (workExit : List (List ℕ)) (listsExit : Lists) (given : Reply) : Type 0 where
+  pub replies : given ≡ runsReply (repeats.answer letters work lists)
+  pub leaves-lists : listsExit ≡ repeats.listsAfter letters work lists
+  pub leaves-work : workExit ≡ repeats.workAfter letters work lists
 
 -- writing a cabinet file
 pub record WriteReplied (counts trees before after : List ℕ) (number : ℕ) : Type 0 where

@@ -2,7 +2,9 @@
 ghost use mathlib.Core.Path.{_≡_};
 ghost use Rattle.build.specs.Built.{lent, figuresOf as builtFigures};
 ghost use Rattle.questions.specs.Answers.{figuresOf, previousAnswer, nextAnswer, placeAnswer};
-ghost use Rattle.lyndon.specs.Replies.{interfaceVersion, BuildReplied, ReadReplied, WriteReplied, buildReply, reply, wordReply, cabinetReply};
+ghost use Rattle.runs.specs.States.{lists};
+ghost use Rattle.runs.specs.Reported.{workOf, answerOf};
+ghost use Rattle.lyndon.specs.Replies.{interfaceVersion, BuildReplied, ReadReplied, RunsReplied, WriteReplied, buildReply, reply, wordReply, runsReply, cabinetReply};
 use build::Built;
 use questions::Answer;
 
@@ -170,6 +172,56 @@ pub extern "C" fn lyndon_word(letters: &[u8], position: usize) -> PartReply
         start: position,
         length,
     }
+}
+
+fn runs_reply(answer: runs::Answer) -> Reply
+    ensures { λ r. ⌜ r ≡ runsReply (answerOf answer) ⌝ }
+{
+    match answer {
+        runs::Answer::Found(number) => Reply {
+            refusal: 0,
+            value: number,
+        },
+        runs::Answer::Refused(k) => Reply {
+            refusal: refusal::number(k),
+            value: 0,
+        },
+    }
+}
+
+#[no_mangle]
+pub extern "C" fn lyndon_runs(
+    letters: &[u8],
+    starts: &mut [u32],
+    ends: &mut [u32],
+    periods: &mut [u32],
+    work_1: &mut [u32],
+    work_2: &mut [u32],
+    work_3: &mut [u32],
+    work_4: &mut [u32],
+    work_5: &mut [u32],
+    work_6: &mut [u32],
+) -> Reply
+    ensures { λ r.
+        ⌜ RunsReplied (now (letters .entry))
+        (workOf (now («work_1» .entry)) (now («work_2» .entry)) (now («work_3» .entry)) (now («work_4» .entry)) (now («work_5» .entry)) (now («work_6» .entry)))
+        (lists (now (starts .entry)) (now (ends .entry)) (now (periods .entry)))
+        (workOf (now («work_1» .exit)) (now («work_2» .exit)) (now («work_3» .exit)) (now («work_4» .exit)) (now («work_5» .exit)) (now («work_6» .exit)))
+        (lists (now (starts .exit)) (now (ends .exit)) (now (periods .exit)))
+        r ⌝ }
+{
+    runs_reply(runs::report(
+        letters,
+        work_1,
+        work_2,
+        work_3,
+        work_4,
+        work_5,
+        work_6,
+        starts,
+        ends,
+        periods,
+    ))
 }
 
 #[no_mangle]

@@ -4,9 +4,9 @@ use mathlib.Core.List.{[], _∷_, map}
 use Rattle.suffix.specs.Search.{anyBelow, countBelow}
 use Rattle.refusal.specs.Numbers.{numberOf, lowestFrom, lowest}
 use Rattle.refusal.specs.Conditions.{byteBit, bitOf, spareBitSet, closedTooEarly, leftOpen, buildRefusal, readRefusal, questionRefusal, wordRefusal}
-use Rattle.refusal.specs.declared.Refusal.the-variants.{TooLong, TableLength, TreeLength, TooManyRows, PositionOutside, SpareBitSet, ClosedTooEarly, LeftOpen, NotMarked, TooManyEntries, WrongContents}
+use Rattle.refusal.specs.declared.Refusal.the-variants.{TooLong, TableLength, TreeLength, TooManyRows, PositionOutside, SpareBitSet, ClosedTooEarly, LeftOpen, NotMarked, TooManyEntries, WrongContents, ListLengths, TooManyRuns}
 
-numbers : map numberOf (TooLong ∷ TableLength ∷ TreeLength ∷ TooManyRows ∷ PositionOutside ∷ SpareBitSet ∷ ClosedTooEarly ∷ LeftOpen ∷ NotMarked ∷ TooManyEntries ∷ WrongContents ∷ []) ≡ 1 ∷ 2 ∷ 3 ∷ 4 ∷ 5 ∷ 6 ∷ 7 ∷ 8 ∷ 9 ∷ 10 ∷ 11 ∷ []
+numbers : map numberOf (TooLong ∷ TableLength ∷ TreeLength ∷ TooManyRows ∷ PositionOutside ∷ SpareBitSet ∷ ClosedTooEarly ∷ LeftOpen ∷ NotMarked ∷ TooManyEntries ∷ WrongContents ∷ ListLengths ∷ TooManyRuns ∷ []) ≡ 1 ∷ 2 ∷ 3 ∷ 4 ∷ 5 ∷ 6 ∷ 7 ∷ 8 ∷ 9 ∷ 10 ∷ 11 ∷ 12 ∷ 13 ∷ []
 numbers = refl
 
 -- M9, M10, M11: the trees 02, 0F and 15 with n 2

@@ -1,2 +1,3 @@
 pub mod Examples
 pub mod Numbers
+pub mod Tables

@@ -59,15 +59,19 @@ leftOpen n t = not (closedTooEarly n t) && ltb (closings t (2 * n)) (openings t 
 abbrev pub flawNumber : ℕ → List ℕ → ℕ
 flawNumber n t = lowestFrom 6 (spareBitSet n t ∷ closedTooEarly n t ∷ leftOpen n t ∷ [])
 
--- "Build: 1 to 4.", of so many rows of n letters; "four tables for the build", of these lengths, and a tree of so many bytes
+-- "four tables for the build", of these lengths
+abbrev pub aTableLengthOff : (n previous next previousMatch nextMatch : ℕ) → Bool
+aTableLengthOff n previous next previousMatch nextMatch =
+    tableLengthOff n previous || tableLengthOff n next || tableLengthOff n previousMatch || tableLengthOff n nextMatch
+
+-- "Build: 1 to 4.", of so many rows of n letters, over four tables of these lengths and a tree of so many bytes
 unfoldable pub buildRefusal : (n rows previous next previousMatch nextMatch bytes : ℕ) → ℕ
 buildRefusal n rows previous next previousMatch nextMatch bytes =
-    lowest
-    (tooLong n
-    ∷ (tableLengthOff n previous || tableLengthOff n next || tableLengthOff n previousMatch || tableLengthOff n nextMatch)
-    ∷ treeLengthOff n bytes
-    ∷ tooManyRows n rows
-    ∷ [])
+    lowest (tooLong n ∷ aTableLengthOff n previous next previousMatch nextMatch ∷ treeLengthOff n bytes ∷ tooManyRows n rows ∷ [])
+
+-- of the four tables alone, without rows and tree: 1 and 2
+unfoldable pub tablesRefusal : (n previous next previousMatch nextMatch : ℕ) → ℕ
+tablesRefusal n previous next previousMatch nextMatch = lowest (tooLong n ∷ aTableLengthOff n previous next previousMatch nextMatch ∷ [])
 
 -- "Reading: 1, 2, 3, 6, 7, 8.", of the bytes t as a tree of n positions; "previous and next for reading a tree", of these lengths
 unfoldable pub readRefusal : ℕ → List ℕ → (previous next : ℕ) → ℕ

@@ -4,12 +4,13 @@ use mathlib.Core.List.{List, [], _∷_}
 use Prim.Native.Nat.{ℕ, suc}
 use lib.Dec.{eqb}
 use Rattle.refusal.specs.declared.Refusal.{Refusal}
-use Rattle.refusal.specs.declared.Refusal.the-variants.{TooLong, TableLength, TreeLength, TooManyRows, PositionOutside, SpareBitSet, ClosedTooEarly, LeftOpen, NotMarked, TooManyEntries, WrongContents}
+use Rattle.refusal.specs.declared.Refusal.the-variants.{TooLong, TableLength, TreeLength, TooManyRows, PositionOutside, SpareBitSet, ClosedTooEarly, LeftOpen, NotMarked, TooManyEntries, WrongContents, ListLengths, TooManyRuns}
 use Rattle.refusal.specs.declared.Verdict.{Verdict}
 use Rattle.refusal.specs.declared.Verdict.the-variants.{Accepted, Refused}
 
 -- "1: n above 1,000,000." to "8: no such place, but not all are closed."; T-01: "9 for a file under 8 bytes or with another mark; 10 for a
--- count above 64; 11 where the contents are cut short" and the rest of that sentence
+-- count above 64; 11 where the contents are cut short" and the rest of that sentence; T-03: "12 where the three lists differ in length, and 13
+-- exactly where there are more runs than entries"
 abbrev pub numberOf : Refusal → ℕ
 numberOf TooLong = 1
 numberOf TableLength = 2
@@ -22,6 +23,8 @@ numberOf LeftOpen = 8
 numberOf NotMarked = 9
 numberOf TooManyEntries = 10
 numberOf WrongContents = 11
+numberOf ListLengths = 12
+numberOf TooManyRuns = 13
 
 -- the number of a verdict: 0 where nothing is refused
 abbrev pub verdictNumber : Verdict → ℕ

@@ -1,7 +1,7 @@
-// Why an operation refuses: document 01, "Who can cause which refusal", and document 02, T-01.
+// Why an operation refuses: document 01, "Who can cause which refusal", and document 02, T-01 and T-03.
 ghost use mathlib.Core.Path.{_≡_};
 ghost use Rattle.refusal.specs.Numbers.{numberOf, verdictNumber};
-ghost use Rattle.refusal.specs.Conditions.{buildRefusal};
+ghost use Rattle.refusal.specs.Conditions.{buildRefusal, tablesRefusal};
 
 pub enum Refusal {
     TooLong,
@@ -15,6 +15,8 @@ pub enum Refusal {
     NotMarked,
     TooManyEntries,
     WrongContents,
+    ListLengths,
+    TooManyRuns,
 }
 
 // Whether an operation takes what it is given.
@@ -39,6 +41,8 @@ pub fn number(refusal: Refusal) -> u32
         Refusal::NotMarked => 9,
         Refusal::TooManyEntries => 10,
         Refusal::WrongContents => 11,
+        Refusal::ListLengths => 12,
+        Refusal::TooManyRuns => 13,
     }
 }
 
@@ -50,6 +54,25 @@ pub fn verdict_number(verdict: Verdict) -> u32
         Verdict::Accepted => 0,
         Verdict::Refused(k) => number(k),
     }
+}
+
+// The verdict on four tables of these lengths for n letters.
+pub fn tables_verdict(
+    n: usize,
+    previous: usize,
+    next: usize,
+    previous_match: usize,
+    next_match: usize,
+) -> Verdict
+    ensures { λ r. ⌜ verdictNumber r ≡ tablesRefusal n previous next «previous_match» «next_match» ⌝ }
+{
+    if n > 1000000 {
+        return Verdict::Refused(Refusal::TooLong);
+    }
+    if previous != n || next != n || previous_match != n || next_match != n {
+        return Verdict::Refused(Refusal::TableLength);
+    }
+    Verdict::Accepted
 }
 
 // The verdict on a build of so many rows of n letters, over tables and a tree of these lengths.
@@ -64,11 +87,9 @@ pub fn build_verdict(
 ) -> Verdict
     ensures { λ r. ⌜ verdictNumber r ≡ buildRefusal n rows previous next «previous_match» «next_match» tree ⌝ }
 {
-    if n > 1000000 {
-        return Verdict::Refused(Refusal::TooLong);
-    }
-    if previous != n || next != n || previous_match != n || next_match != n {
-        return Verdict::Refused(Refusal::TableLength);
+    let tables = tables_verdict(n, previous, next, previous_match, next_match);
+    if let Verdict::Refused(refusal) = tables {
+        return Verdict::Refused(refusal);
     }
     if tree != (n + 3) / 4 {
         return Verdict::Refused(Refusal::TreeLength);

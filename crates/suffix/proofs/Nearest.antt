@@ -3,16 +3,17 @@ use mathlib.Core.Path.{_≡_, ap}
 use mathlib.Core.Logic.{_≢_, _⊎_, inl, inr}
 use mathlib.Core.Bool.{false}
 use mathlib.Core.List.{List}
-use Prim.Native.Nat.{ℕ, suc, _-_, _≤_, _<_}
+use Prim.Native.Nat.{ℕ, suc, _+_, _-_, _≤_, _<_}
 use native.Mathlib.Omega.{arith}
 use lib.ListN.{length}
-use Rattle.suffix.specs.Order.{suffixLess}
-use Rattle.suffix.specs.Nearest.{previous, next}
-use Rattle.suffix.proofs.Cases.{Tri, lt, eq, gt, tri}
+use borrow.Author.Tests.{eq-eqb, ne-eqb}
+use Rattle.suffix.specs.Order.{suffixLess, lce}
+use Rattle.suffix.specs.Nearest.{previous, next, nextMatch}
+use Rattle.suffix.proofs.Cases.{Tri, lt, eq, gt, tri, Same, same, other, same?}
 use Rattle.suffix.proofs.Search.{Greatest, Least, found, absent, greatest, least}
 use Rattle.suffix.proofs.Sequence.{Less, asym}
 use Rattle.suffix.proofs.Edges.{Edge, PreviousAt, NoPrevious, NextAt, prev-unique, next-unique, prev-edge, next-edge, edge-prev, edge-next}
-use Rattle.suffix.proofs.Order.{extended, less-from-true, less-from-false, total, end-least}
+use Rattle.suffix.proofs.Order.{extended, less-from-true, less-from-false, total, end-least, lce-match, agree-fits}
 
 pub data PreviousCase (y : List ℕ) (i v : ℕ) : Type 0 where
   some : PreviousAt (extended y) i v → PreviousCase y i v
@@ -100,6 +101,20 @@ next-le y i = go (least (λ j. suffixLess y j i) (length y) (suc i) (length y - 
     go : {v : ℕ} → Least (suc i) (length y - suc i) (λ j. suffixLess y j i) (length y) v → v ≤ length y
     go (found a b c d) = omega arith
     go (absent a d) = omega arith
+
+-- next-match is the match with next, also where that is none: the empty suffix shares no letter
+pub next-match-is : (y : List ℕ) (i : ℕ) → i < length y → nextMatch y i ≡ lce y i (next y i)
+unfolding nextMatch
+next-match-is y i h = go (same? (next y i) (length y))
+  where
+    fits : next y i + lce y i (next y i) ≤ length y
+    fits =
+        let N = next-at y i h in
+        agree-fits y (N .after) (next-le y i) (lce-match y i (next y i) (omega (arith, N .after)) (omega arith) (next-le y i) .same)
+
+    go : Same (next y i) (length y) → nextMatch y i ≡ lce y i (next y i)
+    go (same e) = rw (eq-eqb _ _ e, nextMatch) (omega (arith, fits))
+    go (other e) = rw (ne-eqb _ _ e, nextMatch)
 
 -- nothing is smaller than the end
 pub previous-end : (y : List ℕ) → previous y (length y) ≡ length y

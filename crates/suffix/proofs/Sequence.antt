@@ -2,9 +2,9 @@
 -- (Order.antt), so no end has to be told apart here.
 use mathlib.Core.Path.{_≡_, sym, _∙_}
 use mathlib.Core.Logic.{_≢_, _⊎_, inl, inr}
-use Prim.Native.Nat.{ℕ, _+_, _≤_, _<_}
+use Prim.Native.Nat.{ℕ, zero, suc, _+_, _≤_, _<_}
 use native.Mathlib.Omega.{arith}
-use Rattle.suffix.proofs.Cases.{Tri, lt, eq, gt, tri, le-unless}
+use Rattle.suffix.proofs.Cases.{Tri, lt, eq, gt, tri, Same, same, other, same?, le-unless}
 
 module _ (f : ℕ → ℕ) where
   -- the first m letters from i and from j agree
@@ -87,3 +87,24 @@ module _ (f : ℕ → ℕ) where
       go (lt h) = inl (record { at = m; same = a .same; less = h })
       go (eq h) = absurd (a .differ h)
       go (gt h) = inr (record { at = m; same = agree-sym (a .same); less = h })
+
+  pub agree-more : {i j m : ℕ} → Agree i j m → f (i + m) ≡ f (j + m) → Agree i j (suc m)
+  agree-more {i} {j} {m} a e = record { on = λ k h. go k h (same? k m) }
+    where
+      go : (k : ℕ) → k < suc m → Same k m → f (i + k) ≡ f (j + k)
+      go k h (same w) = rw w e
+      go k h (other w) = a .on k (omega arith)
+
+  -- m letters from i and from j agree, or there is a first place where they differ
+  pub data Meet (i j m : ℕ) : Type 0 where
+    whole : Agree i j m → Meet i j m
+    split : (k : ℕ) → k < m → Match i j k → Meet i j m
+
+  pub meet : (i j m : ℕ) → Meet i j m
+  meet i j zero = whole agree-none
+  meet i j (suc m) = go (meet i j m) (same? (f (i + m)) (f (j + m)))
+    where
+      go : Meet i j m → Same (f (i + m)) (f (j + m)) → Meet i j (suc m)
+      go (split k h q) s = split k (omega arith) q
+      go (whole a) (same e) = whole (agree-more a e)
+      go (whole a) (other e) = split m (omega arith) (record { same = a; differ = e })

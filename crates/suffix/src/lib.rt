@@ -1,1 +1,10 @@
-// No code: the published definitions (specs/) and what is proved about them (proofs/).
+// The rank of a letter. All else is the published definitions (specs/) and what is proved about them (proofs/).
+ghost use mathlib.Core.Path.{_≡_};
+ghost use Rattle.suffix.specs.Ranks.{rank};
+
+// The number by which a letter compares.
+pub fn rank(letter: u8) -> u8
+    ensures { λ r. ⌜ r ≡ rank letter ⌝ }
+{
+    letter
+}

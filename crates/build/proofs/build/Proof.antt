@@ -1,14 +1,17 @@
 -- `build::build` meets its contract: each way out is a law of proofs/Answers.antt.
 use mathlib.Core.Path.{_≡_, sym, ap, _∙_}
 use native.Mathlib.Omega.{arith}
-use lib.ListN.{length, replicate}
+use lib.ListN.{length, replicate, length-replicate}
 use borrow.Author.Needs.{needs}
+use Rattle.suffix.specs.Tree.{treeBytes}
+use Rattle.suffix.proofs.Bytes.{bytes-length}
 use Rattle.refusal.specs.Numbers.{verdictNumber}
 use Rattle.reuse.specs.Steps.{afterRows}
 use Rattle.build.specs.States.{buildState}
 use Rattle.build.specs.Built.{Lent, lent, refusalOf}
 use Rattle.build.proofs.Answers.{Accepted}
 use Rattle.build.proofs.Answers as answers
+use Rattle.build.proofs.Parts.{part-whole}
 use Rattle.build.proofs.build.Statement.{statement}
 use Rattle.build.proofs.build.Tie as tie
 
@@ -38,16 +41,22 @@ built t = left t .before .before .before .before .before .before .before .before
 
 -- the memory at exit
 abbrev after : tie.After-clear-tables → Lent
-after t = let u = t .clear-tables .last .1 .1 in lent (u .0) (u .1 .0) (u .1 .1 .0) (u .1 .1 .1 .0) (built t .build-rows .last .1 .1 .1 .1 .1 .1 .0)
+after t = let u = t .clear-tables .last .1 .1 in lent (u .0) (u .1 .0) (u .1 .1 .0) (u .1 .1 .1 .0) (built t .build-rows .last .1 .1 .1 .1 .1 .1 .1 .0)
 
 returns : tie.Need-returns
 unfolding refusalOf
 returns c = answers.refused _ _ _ _ (sym (ap verdictNumber (c .before .verdict .given .1)) ∙ c .before .before .before .build-verdict .ensures)
 
+-- the tree is cleared, and keeps its length
+cleared-long : (k : tie.After-clear-tree) → length (k .clear-tree .last .0) ≡ length (start (k .before .before) .args .tree .now)
+cleared-long k = ap length (k .clear-tree .ensures) ∙ length-replicate _ _
+
 build-rows-requires : tie.Need-build-rows-requires
 build-rows-requires c κs =
-    let a = accepted (c .before .before .before .before .before .before .before .before .before) in
-    ((a .few, a .rows), ((a .previous, a .next, a .previousMatch, a .nextMatch), c .before .before .before .before .before .before .before .clear-tree .ensures ∙ ap (λ k. replicate k 0) (a .tree)))
+    let k = c .before .before .before .before .before .before .before in
+    let a = accepted (k .before .before) in
+    let z = cleared-long k in
+    ((a .few, a .rows), ((a .previous, a .next, a .previousMatch, a .nextMatch), (omega (arith, z, a .tree), k .clear-tree .ensures ∙ ap (λ i. replicate i 0) (sym z))))
 
 clear-tables-requires : tie.Need-clear-tables-requires
 clear-tables-requires c κs =
@@ -80,6 +89,15 @@ module _ (k : tie.After-slice-known15) where
   same-tree : length (after cleared .tree) ≡ length (entry .tree)
   same-tree = left cleared .before .tree2 .given ∙ built cleared .before .before .before .before .before .before .before .tree .given
 
+-- the tree is lent whole
+tree-is : (t : tie.After-clear-tables) → let s = start (told (built t)) in after t .tree ≡ treeBytes (s .args .letters .now) (s .args .rows)
+tree-is t =
+    let d = built t in
+    let k = d .before .before .before .before .before .before .before .before in
+    let s = start (told d) in
+    part-whole (length (k .clear-tree .last .0)) (treeBytes (s .args .letters .now) (s .args .rows)) (d .build-rows .ensures .1 .0)
+    (cleared-long k ∙ accepted (told d) .tree ∙ sym (bytes-length (s .args .letters .now) (s .args .rows)))
+
 -- all rows, and none from there on
 exact : (t : tie.After-clear-tables) → let s = start (told (built t)) in buildState (built t .build-rows .result) (after t .tables) ≡ afterRows (s .args .letters .now) (s .args .rows)
 exact t = ap (buildState (built t .build-rows .result)) (t .clear-tables .ensures) ∙ built t .build-rows .ensures .0
@@ -88,14 +106,14 @@ returns-2 : tie.Need-returns-2
 returns-2 c =
     let t = c .before .before .before .before .before .before .before .before .before in
     let e = built t .build-rows .ensures in
-    answers.finished _ _ _ (taken (told (built t))) (built t .build-rows .result) (after t) (exact t) (e .1 .0)
+    answers.finished _ _ _ (taken (told (built t))) (built t .build-rows .result) (after t) (exact t) (tree-is t)
     (record { rows = omega (arith, e .1 .1); equal = omega arith; unequal = omega arith; reach = omega arith }) (c .if1 .taken)
 
 returns-3 : tie.Need-returns-3
 returns-3 c =
     let t = c .before .before .before .before .before .before .before .before .before in
     let e = built t .build-rows .ensures in
-    answers.halted _ _ _ (taken (told (built t))) (built t .build-rows .result) (after t) (exact t) (e .1 .0)
+    answers.halted _ _ _ (taken (told (built t))) (built t .build-rows .result) (after t) (exact t) (tree-is t)
     (record { rows = omega (arith, e .1 .1); equal = omega arith; unequal = omega arith; reach = omega arith }) (c .if1 .left)
 
 pub build-spec : {M : Type 1} → statement M

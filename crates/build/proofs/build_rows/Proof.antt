@@ -1,10 +1,13 @@
 -- `build::build_rows` meets its contract: each way through its two loops is a law of proofs/Invariants.antt.
 use mathlib.Core.Path.{_≡_, refl, sym, ap, _∙_}
-use Prim.Native.Nat.{_-_, _≤_, _<_}
+use mathlib.Core.Logic.{_≢_}
+use mathlib.Core.List.{List}
+use Prim.Native.Nat.{ℕ, _-_, _≤_, _<_}
 use native.Mathlib.Omega.{arith}
-use lib.ListN.{length, length-replicate}
-use Rattle.suffix.specs.Tree.{treeBytes}
-use Rattle.suffix.proofs.Bytes.{bytes-length, no-bytes}
+use lib.ListN.{length, take}
+use Rattle.suffix.specs.Ranks.{ranks, greatestRank, oriented}
+use Rattle.suffix.specs.Tree.{treeLength, treeBytes}
+use Rattle.suffix.proofs.Ranks.{oriented-length}
 use Rattle.suffix.proofs.Rows.{tables-are}
 use Rattle.reuse.specs.Steps.{recordPrevious, recordNext}
 use Rattle.reuse.proofs.Row.{Sizes}
@@ -15,18 +18,18 @@ use Rattle.build.proofs.build_rows.Statement.{statement}
 use Rattle.build.proofs.build_rows.Tie as tie
 
 abbrev Inv-walk : tie.InvT-walk
-Inv-walk letters rows previous next₀ previous-match next-match₀ tree n state₀ bit₀ r l₀ m₀ known₀ next next-match state bit l m known =
-    AtWalk letters rows r state (tablesOf previous next previous-match next-match) tree bit l m known
+Inv-walk letters reverse rows previous next₀ previous-match next-match₀ tree n state₀ bit₀ r l₀ m₀ known₀ next next-match state bit l m known =
+    AtWalk (oriented reverse (ranks letters)) rows r state (tablesOf previous next previous-match next-match) tree bit l m known
 
 abbrev μ-walk : tie.MeasureT-walk
-μ-walk letters rows previous next₀ previous-match next-match₀ tree n state₀ bit₀ r l₀ m₀ known₀ next next-match state bit l m known = l
+μ-walk letters reverse rows previous next₀ previous-match next-match₀ tree n state₀ bit₀ r l₀ m₀ known₀ next next-match state bit l m known = l
 
 abbrev Inv-rows : tie.InvT-rows
-Inv-rows letters rows previous₀ next₀ previous-match₀ next-match₀ tree₀ n state₀ bit₀ p₀ v₀ previous next previous-match next-match tree state bit p v =
-    AtRows letters rows state (tablesOf previous next previous-match next-match) p v tree bit
+Inv-rows letters reverse rows previous₀ next₀ previous-match₀ next-match₀ tree₀ n state₀ bit₀ p₀ v₀ previous next previous-match next-match tree state bit p v =
+    AtRows (oriented reverse (ranks letters)) rows state (tablesOf previous next previous-match next-match) p v tree bit × (length tree ≡ length tree₀)
 
 abbrev μ-rows : tie.MeasureT-rows
-μ-rows letters rows previous₀ next₀ previous-match₀ next-match₀ tree₀ n state₀ bit₀ p₀ v₀ previous next previous-match next-match tree state bit p v = rows - state .rows
+μ-rows letters reverse rows previous₀ next₀ previous-match₀ next-match₀ tree₀ n state₀ bit₀ p₀ v₀ previous next previous-match next-match tree state bit p v = rows - state .rows
 
 -- ---- the way back: next[l] is recorded, the suffix at r is the smaller, the pair is settled, the head of the walk, the row is recorded, the head of the rows
 
@@ -60,69 +63,93 @@ rows-start h = h .before .before .before .before .before .before .before .before
 abbrev start : tie.At-walk Inv-walk μ-walk Inv-rows μ-rows → tie.Start Inv-walk μ-walk Inv-rows μ-rows
 start a = rows-start (rows-head (row (pended a)))
 
-few : (a : tie.At-walk Inv-walk μ-walk Inv-rows μ-rows) → length (start a .args .letters .now) ≤ 1000000
-few a = start a .pre .0 .0
+-- the ranks, as many as the letters
+abbrev y : tie.Start Inv-walk μ-walk Inv-rows μ-rows → List ℕ
+y s = oriented (s .args .reverse) (s .args .letters .now)
+
+same : (s : tie.Start Inv-walk μ-walk Inv-rows μ-rows) → length (y s) ≡ length (s .args .letters .now)
+same s = oriented-length greatestRank (s .args .reverse) (s .args .letters .now)
+
+few : (s : tie.Start Inv-walk μ-walk Inv-rows μ-rows) → length (y s) ≤ 1000000
+few s = omega (arith, same s, s .pre .0 .0)
 
 -- ---- the needs
 
 -- the tables at the start
-sizes : (s : tie.Start Inv-walk μ-walk Inv-rows μ-rows) → Sizes (s .args .letters .now) (tablesOf (s .args .previous .now) (s .args .next .now) (s .args .previous-match .now) (s .args .next-match .now))
-sizes s = let p = s .pre .1 .0 in record { previous = p .0; next = p .1; previousMatch = p .2; nextMatch = p .3 }
+sizes : (s : tie.Start Inv-walk μ-walk Inv-rows μ-rows) → Sizes (y s) (tablesOf (s .args .previous .now) (s .args .next .now) (s .args .previous-match .now) (s .args .next-match .now))
+sizes s = let p = s .pre .1 .0 in let e = sym (same s) in record { previous = p .0 ∙ e; next = p .1 ∙ e; previousMatch = p .2 ∙ e; nextMatch = p .3 ∙ e }
+
+-- the tree at the start
+tree-fits : (s : tie.Start Inv-walk μ-walk Inv-rows μ-rows) → length (s .args .tree .now) ≤ treeLength (length (y s))
+tree-fits s = rw (same s) (s .pre .1 .1 .0)
 
 returns : tie.Need-returns Inv-walk μ-walk Inv-rows μ-rows
 returns c =
     let s = c .before .before .before .before .before .before .before in
     let none : s .args .rows ≡ 0 = omega arith in
-    rw none (law.no-rows _ _ (sizes s), (s .pre .1 .1 ∙ no-bytes _, refl))
+    rw none
+    (rw (sym (same s)) (law.no-rows (y s) _ (sizes s)), (law.no-bits (y s) _ (sizes s) _ (tree-fits s) (s .pre .1 .1 .1), refl))
 
 rows-holds : tie.Need-rows-holds Inv-walk μ-walk Inv-rows μ-rows
 rows-holds c =
     let s = c .before .before .before .before .before .before .before in
-    law.first-row _ _ (sizes s) _ _ (omega arith) (s .pre .0 .1) (s .pre .1 .1)
+    (law.first-row (y s) _ (sizes s) _ _ _ (omega arith) (omega (arith, same s, s .pre .0 .1)) (sym (same s)) (tree-fits s) (s .pre .1 .1 .1), refl)
 
 set-bit-requires : tie.Need-set-bit-requires Inv-walk μ-walk Inv-rows μ-rows
-set-bit-requires c κs = (law.byte-in (c .before .rows .inv), law.byte-room (c .before .rows .inv))
+set-bit-requires c κs = law.byte-room (c .before .rows .inv .0)
 
 record-entry-requires : tie.Need-record-entry-requires Inv-walk μ-walk Inv-rows μ-rows
 record-entry-requires c κs =
     let h = c .before .before .before .before .before .before in
-    let A = h .rows .inv in
-    let p = rows-start h .pre .0 .0 in
-    (omega (arith, A .pos, A .most, A .fits, A .sizes .previous), omega (arith, A .pos, A .most, A .fits, A .sizes .previousMatch), omega (arith, A .entry-fits), omega (arith, A .match-fits))
+    let A = h .rows .inv .0 in
+    let p = few (rows-start h) in
+    (omega (arith, A .pos, A .most, A .fits, A .sizes .previous), omega (arith, A .pos, A .most, A .fits, A .sizes .previousMatch), omega (arith, A .entry-fits, p), omega (arith, A .match-fits, p))
 
 record-entry-requires-2 : tie.Need-record-entry-requires-2 Inv-walk μ-walk Inv-rows μ-rows
 record-entry-requires-2 c κs =
     let h = rows-head (c .before .before .before .before .before .before) in
-    let A = h .rows .inv in
+    let A = h .rows .inv .0 in
     let p = rows-start h .pre .0 .0 in
-    (omega (arith, A .pos, A .most, A .fits, A .sizes .next), omega (arith, A .pos, A .most, A .fits, A .sizes .nextMatch), omega (arith, A .most, A .fits, p), omega arith)
+    (omega (arith, A .pos, A .most, A .fits, A .sizes .next), omega (arith, A .pos, A .most, A .fits, A .sizes .nextMatch), omega (arith, p), omega arith)
 
 -- the entries of the row are recorded
 row-recorded : (e : tie.After-record-entry2 Inv-walk μ-walk Inv-rows μ-rows) → let h = rows-head (row e) .rows in
     tablesOf (row e .record-entry .last .0) (e .record-entry2 .last .0) (row e .record-entry .last .1 .0) (e .record-entry2 .last .1 .0)
     ≡ recordNext (recordPrevious (tablesOf (h .previous) (h .next) (h .previous-match) (h .next-match)) (h .state .rows - 1) (h .p) (h .v)) (h .state .rows - 1)
-    (length (rows-start (rows-head (row e)) .args .letters .now)) 0
+    (length (y (rows-start (rows-head (row e))))) 0
 unfolding recordPrevious recordNext
 row-recorded e =
-    tables-are (row e .record-entry .ensures .0) (e .record-entry2 .ensures .0) (row e .record-entry .ensures .1) (e .record-entry2 .ensures .1)
+    rw (same (rows-start (rows-head (row e))))
+    (tables-are (row e .record-entry .ensures .0) (e .record-entry2 .ensures .0) (row e .record-entry .ensures .1) (e .record-entry2 .ensures .1))
 
 walk-holds : tie.Need-walk-holds Inv-walk μ-walk Inv-rows μ-rows
 walk-holds c =
     let e = c .before .before .before .before .before in
-    law.begins (rows-head (row e) .rows .inv) (c .if2 .left) (row-recorded e) (bit-set (row e) .set-bit .ensures)
+    law.begins (rows-head (row e) .rows .inv .0) (c .if2 .left) (row-recorded e) (bit-set (row e) .set-bit .ensures)
 
 settle-requires : tie.Need-settle-requires Inv-walk μ-walk Inv-rows μ-rows
-settle-requires c κs = let a = c .before .before .before in (few a, ((a .walk .inv .sizes .next, a .walk .inv .sizes .previousMatch, a .walk .inv .sizes .nextMatch), law.safe (a .walk .inv)))
+settle-requires c κs =
+    let a = c .before .before .before in
+    let s = start a in
+    let S = a .walk .inv .sizes in
+    (s .pre .0 .0, ((S .next ∙ same s, S .previousMatch ∙ same s, S .nextMatch ∙ same s), rw (sym (same s)) (law.safe (a .walk .inv))))
 
 record-entry-requires-3 : tie.Need-record-entry-requires-3 Inv-walk μ-walk Inv-rows μ-rows
-record-entry-requires-3 c κs = let S = settled (c .before .before) in law.next-fits (head S .walk .inv) (S .settle .result) (S .settle .ensures) (few (head S))
+record-entry-requires-3 c κs = let S = settled (c .before .before) in law.next-fits (head S .walk .inv) (S .settle .result) (S .settle .ensures) (few (start (head S)))
 
 advances : (S : tie.After-settle Inv-walk μ-walk Inv-rows μ-rows) → let a = head S in
     rows-start (rows-head (row (pended a))) .args .rows - S .settle .result .state .rows < rows-start (rows-head (row (pended a))) .args .rows - rows-head (row (pended a)) .rows .state .rows
 advances S = law.advances (head S .walk .inv) (S .settle .result) (S .settle .ensures)
 
+-- the tree keeps its length
+tree-long : (e : tie.After-record-entry Inv-walk μ-walk Inv-rows μ-rows) → length (bit-set e .set-bit .last .0) ≡ length (rows-start (rows-head e) .args .tree .now)
+tree-long e = e .before .before .before .before .tree .given ∙ rows-head e .rows .inv .1
+
+tree-stays : (a : tie.At-walk Inv-walk μ-walk Inv-rows μ-rows) → length (bit-set (row (pended a)) .set-bit .last .0) ≡ length (start a .args .tree .now)
+tree-stays a = tree-long (row (pended a))
+
 rows-again : tie.Need-rows-again Inv-walk μ-walk Inv-rows μ-rows
-rows-again c = let S = c .before .before in law.ends-left (head S .walk .inv) (S .settle .result) (S .settle .ensures) (c .if3 .taken)
+rows-again c = let S = c .before .before in (law.ends-left (head S .walk .inv) (S .settle .result) (S .settle .ensures) (c .if3 .taken), tree-stays (head S))
 
 -- next[l] is recorded
 next-recorded : (i : tie.After-record-entry3 Inv-walk μ-walk Inv-rows μ-rows) → let S = settled (right i) in let a = head S in
@@ -136,28 +163,34 @@ rows-again-2 : tie.Need-rows-again-2 Inv-walk μ-walk Inv-rows μ-rows
 rows-again-2 c =
     let i = recorded (c .before) in
     let S = settled (right i) in
-    law.ends-none (head S .walk .inv) (S .settle .result) (S .settle .ensures) (right i .if3 .left) (next-recorded i) (c .before .read .ensures .0) (c .if4 .taken)
+    (law.ends-none (head S .walk .inv) (S .settle .result) (S .settle .ensures) (right i .if3 .left) (next-recorded i) (c .before .read .ensures .0) (c .if4 .taken ∙ sym (same (start (head S)))), tree-stays (head S))
+
+-- previous[l] is not none
+some : (e : tie.Else4 Inv-walk μ-walk Inv-rows μ-rows) → e .before .read .result ≢ length (y (start (head (settled (right (recorded (e .before)))))))
+some e q = e .if4 .left (q ∙ same (start (head (settled (right (recorded (e .before)))))))
 
 falls : (e : tie.Else4 Inv-walk μ-walk Inv-rows μ-rows) → e .before .read .result < head (settled (right (recorded (e .before)))) .walk .l
 falls e =
     let i = recorded (e .before) in
     let S = settled (right i) in
-    law.falls (head S .walk .inv) (S .settle .result) (S .settle .ensures) (right i .if3 .left) (next-recorded i) (e .before .read .ensures .0) (e .if4 .left)
+    law.falls (head S .walk .inv) (S .settle .result) (S .settle .ensures) (right i .if3 .left) (next-recorded i) (e .before .read .ensures .0) (some e)
 
 rows-again-3 : tie.Need-rows-again-3 Inv-walk μ-walk Inv-rows μ-rows
 rows-again-3 c =
     let e = c .before .before .before in
     let i = recorded (e .before) in
-    let S = settled (right i) in
-    law.ends-less (head S .walk .inv) (S .settle .result) (S .settle .ensures) (right i .if3 .left) (next-recorded i) (e .before .read .ensures .0) (e .if4 .left) (c .before .read2 .ensures .0)
-    (c .if5 .taken)
+    let S = settled (right i) in (
+      law.ends-less (head S .walk .inv) (S .settle .result) (S .settle .ensures) (right i .if3 .left) (next-recorded i) (e .before .read .ensures .0) (some e) (c .before .read2 .ensures .0)
+          (c .if5 .taken),
+      tree-stays (head S),
+    )
 
 walk-again : tie.Need-walk-again Inv-walk μ-walk Inv-rows μ-rows
 walk-again c =
     let e = c .before .before .before in
     let i = recorded (e .before) in
     let S = settled (right i) in
-    law.goes (head S .walk .inv) (S .settle .result) (S .settle .ensures) (right i .if3 .left) (next-recorded i) (e .before .read .ensures .0) (e .if4 .left) (c .before .read2 .ensures .0)
+    law.goes (head S .walk .inv) (S .settle .result) (S .settle .ensures) (right i .if3 .left) (next-recorded i) (e .before .read .ensures .0) (some e) (c .before .read2 .ensures .0)
     (c .if5 .left)
 
 -- where all rows are done: its entries and the tree's bit are written
@@ -171,17 +204,17 @@ module _ (c : tie.Then2 Inv-walk μ-walk Inv-rows μ-rows) where
   abbrev s : tie.Start Inv-walk μ-walk Inv-rows μ-rows
   s = rows-start h
 
-  written : bit-set (row e) .set-bit .last .0 ≡ treeBytes (s .args .letters .now) (h .rows .state .rows)
-  written = bit-set (row e) .set-bit .ensures ∙ law.bit-set (h .rows .inv)
+  written : bit-set (row e) .set-bit .last .0 ≡ take (length (s .args .tree .now)) (treeBytes (y s) (h .rows .state .rows))
+  written = law.bit-set (h .rows .inv .0) (bit-set (row e) .set-bit .ensures) ∙ ap (λ k. take k (treeBytes (y s) (h .rows .state .rows))) (tree-long (row e))
 
-  lengths : Sizes (s .args .letters .now) (tablesOf (row e .record-entry .last .0) (e .record-entry2 .last .0) (row e .record-entry .last .1 .0) (e .record-entry2 .last .1 .0))
-  lengths = law.recorded-sizes (h .rows .inv) (row-recorded e)
+  lengths : Sizes (y s) (tablesOf (row e .record-entry .last .0) (e .record-entry2 .last .0) (row e .record-entry .last .1 .0) (e .record-entry2 .last .1 .0))
+  lengths = law.recorded-sizes (h .rows .inv .0) (row-recorded e)
 
 returns-2 : tie.Need-returns-2 Inv-walk μ-walk Inv-rows μ-rows
 returns-2 c =
-    let A = h c .rows .inv in
+    let A = h c .rows .inv .0 in
     let z : h c .rows .state .rows ≡ s c .args .rows = omega (arith, A .most, c .if2 .taken) in
-    (law.rows-are-done A (row-recorded (e c)) _ z, (written c ∙ ap (treeBytes _) z, z))
+    (rw (sym (same (s c))) (law.rows-are-done A (row-recorded (e c)) _ z), (written c ∙ ap (λ k. take (length (s c .args .tree .now)) (treeBytes (y (s c)) k)) z, z))
 
 pub build-rows-spec : {M : Type 1} → statement M
 build-rows-spec =
@@ -195,18 +228,18 @@ build-rows-spec =
     rows-holds
     set-bit-requires
     (λ c. omega arith)
-    (λ c. c .before .before .before .before .before .before .rows .inv .pos)
+    (λ c. c .before .before .before .before .before .before .rows .inv .0 .pos)
     record-entry-requires
-    (λ c. rows-head (c .before .before .before .before .before .before) .rows .inv .pos)
+    (λ c. rows-head (c .before .before .before .before .before .before) .rows .inv .0 .pos)
     record-entry-requires-2
-    (λ c. let h = rows-head (row (c .before .before .before .before .before)) in law.one-more (h .rows .inv) (rows-start h .pre .0 .0))
-    (λ c. rows-head (row (c .before .before .before .before .before)) .rows .inv .pos)
+    (λ c. let h = rows-head (row (c .before .before .before .before .before)) in law.one-more (h .rows .inv .0) (few (rows-start h)))
+    (λ c. rows-head (row (c .before .before .before .before .before)) .rows .inv .0 .pos)
     walk-holds
     settle-requires
     (λ c. advances (c .before .before))
     rows-again
     record-entry-requires-3
-    (λ c. let a = head (settled (right (c .before .before .before .before))) in omega (arith, a .walk .inv, few a))
+    (λ c. let a = head (settled (right (c .before .before .before .before))) in omega (arith, a .walk .inv, few (start a)))
     (λ c κs. law.l-in (head (settled (right (c .before .before .before .before .before))) .walk .inv) .0)
     (λ c. advances (settled (right (recorded (c .before)))))
     rows-again-2
@@ -215,9 +248,9 @@ build-rows-spec =
     rows-again-3
     (λ c. falls (c .before .before .before))
     walk-again
-    (λ c. lengths c .previous ∙ sym (s c .pre .1 .0 .0))
-    (λ c. lengths c .next ∙ sym (s c .pre .1 .0 .1))
-    (λ c. lengths c .previousMatch ∙ sym (s c .pre .1 .0 .2))
-    (λ c. lengths c .nextMatch ∙ sym (s c .pre .1 .0 .3))
-    (λ c. ap length (written c) ∙ bytes-length _ _ ∙ sym (ap length (s c .pre .1 .1) ∙ length-replicate _ _))
+    (λ c. lengths c .previous ∙ same (s c) ∙ sym (s c .pre .1 .0 .0))
+    (λ c. lengths c .next ∙ same (s c) ∙ sym (s c .pre .1 .0 .1))
+    (λ c. lengths c .previousMatch ∙ same (s c) ∙ sym (s c .pre .1 .0 .2))
+    (λ c. lengths c .nextMatch ∙ same (s c) ∙ sym (s c .pre .1 .0 .3))
+    (λ c. tree-long (row (e c)))
     returns-2)

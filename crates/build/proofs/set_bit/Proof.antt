@@ -1,16 +1,24 @@
 -- `build::set_bit` meets its contract.
-use mathlib.Core.Path.{_≡_}
+use mathlib.Core.Path.{_≡_, sym}
 use Prim.Native.Nat.{_*_, _%_, _^_}
 use native.Mathlib.Omega.{arith}
 use borrow.Author.Needs.{needs}
+use lib.Seq.{set-out}
 use Rattle.build.proofs.set_bit.Statement.{statement}
 use Rattle.build.proofs.set_bit.Tie as tie
 
+add-tree : tie.Need-add-tree
+add-tree c = let h = c .before .before .pre (c .before .if1 .taken) in search needs
+
 returns : tie.Need-returns
 returns c =
-    let k = c .before .args .k in
-    let weight : 1 * 2 ^ (k % 8) % 256 ≡ 2 ^ (k % 8) = omega arith in
+    let k = c .before .before .args .k in
+    let weight : 1 * 2 ^ (k % 8) % 256 ≡ 2 ^ (k % 8) = omega (arith, c .before .before .pre (c .before .if1 .taken)) in
     rw weight
 
+returns-2 : tie.Need-returns-2
+returns-2 c = sym (set-out _ _ _ (c .if1 .left))
+
 pub set-bit-spec : {M : Type 1} → statement M
-set-bit-spec = tie.close (tie.spec (λ c. search needs) (λ c. search needs) (λ c. search needs) (λ c. search needs) (λ c. search needs) (λ c. search needs) returns)
+set-bit-spec =
+    tie.close (tie.spec (λ c. search needs) (λ c. search needs) (λ c. search needs) add-tree (λ c. search needs) (λ c. search needs) returns returns-2)

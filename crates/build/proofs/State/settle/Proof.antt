@@ -5,6 +5,7 @@ use mathlib.Core.List.{[]}
 use Prim.Native.Nat.{ℕ, _+_, _≤_}
 use native.Mathlib.Omega.{arith}
 use lib.ListN.{length}
+use Rattle.suffix.specs.Ranks.{ranks, oriented}
 use Rattle.reuse.specs.Steps.{scanFrom}
 use Rattle.reuse.proofs.Settle.{reuse-copy, reuse-scan}
 use Rattle.build.specs.States.{progressOf, tablesOf, Safe, settledFrom}
@@ -27,8 +28,8 @@ record From (e : tie.Else1) (k : ℕ) : Type 0 where
   fits : let g = start e .args in g .r + k ≤ length (g .letters .now)
   is :
       let g = start e .args in
-      settledFrom (g .known) (g .letters .now) (progressOf (g .self)) (tablesOf [] (g .next .now) (g .previous-match .now) (g .next-match .now)) (g .l) (g .r) (g .m)
-      ≡ scanFrom (g .letters .now) (progressOf (g .self)) (g .l) (g .r) k
+      settledFrom (g .known) (oriented (g .reverse) (ranks (g .letters .now))) (progressOf (g .self)) (tablesOf [] (g .next .now) (g .previous-match .now) (g .next-match .now)) (g .l) (g .r) (g .m)
+      ≡ scanFrom (oriented (g .reverse) (ranks (g .letters .now))) (progressOf (g .self)) (g .l) (g .r) k
 
 from-is : (c : tie.Joined2) → From (c .before .before) (c .if2 .from)
 from-is c =

@@ -1,0 +1,63 @@
+-- `build::build_tables` meets its contract: each way out is a law of proofs/Alone.antt.
+use mathlib.Core.Path.{_≡_, refl, sym, ap, _∙_}
+use native.Mathlib.Omega.{arith}
+use borrow.Author.Needs.{needs}
+use lib.ListN.{length}
+use Rattle.suffix.specs.Rows.{Tables}
+use Rattle.refusal.specs.Numbers.{verdictNumber}
+use Rattle.build.specs.States.{tablesOf}
+use Rattle.build.specs.Built.{tablesRefusalOf}
+use Rattle.build.proofs.Alone as alone
+use Rattle.build.proofs.build_tables.Statement.{statement}
+use Rattle.build.proofs.build_tables.Tie as tie
+
+-- the memory at entry
+abbrev before : tie.Start → Tables
+before s = let g = s .args in tablesOf (g .previous .now) (g .next .now) (g .previous-match .now) (g .next-match .now)
+
+-- nothing is refused
+abbrev start : tie.After-enum-told → tie.Start
+start m = m .before .before .before .before .before .before .before .before
+
+taken : (m : tie.After-enum-told) → let s = start m in tablesRefusalOf (s .args .letters .now) (before s) ≡ 0
+unfolding tablesRefusalOf
+taken m = sym (m .before .before .tables-verdict .ensures) ∙ ap verdictNumber (m .enum-told .given .1)
+
+lengths : (m : tie.After-enum-told) → let s = start m in alone.Lengths (length (s .args .letters .now)) (before s)
+lengths m = let s = start m in alone.taken (s .args .letters .now) (s .args .reverse) (before s) (taken m)
+
+returns : tie.Need-returns
+unfolding tablesRefusalOf
+returns c = alone.refused _ _ _ (c .before .verdict .given .0 .0) (sym (ap verdictNumber (c .before .verdict .given .1)) ∙ c .before .before .before .tables-verdict .ensures)
+
+build-rows-requires : tie.Need-build-rows-requires
+build-rows-requires c κs =
+    let a = lengths (c .before .before .before .before .before) in
+    ((a .few, omega arith), ((a .previous, a .next, a .previousMatch, a .nextMatch), (omega arith, refl)))
+
+-- the memory at exit
+abbrev after : tie.After-build-rows → Tables
+after d = let u = d .build-rows .last .1 .1 .1 in tablesOf (u .0) (u .1 .0) (u .1 .1 .0) (u .1 .1 .1 .0)
+
+returns-2 : tie.Need-returns-2
+returns-2 c =
+    let k = c .before .before in
+    let d = k .before .before .before .before .before .before .before in
+    let m = d .before .before .before .before .before .before in
+    let s = start m in
+    let a = lengths m in
+    alone.built (s .args .letters .now) (s .args .reverse) (before s) (taken m) (d .build-rows .result) (after d)
+    (record {
+      few = a .few;
+      previous = k .before .before .before .before .before .before .previous .given ∙ a .previous;
+      next = k .before .before .before .before .next .given ∙ a .next;
+      previousMatch = k .before .before .previous-match .given ∙ a .previousMatch;
+      nextMatch = k .next-match .given ∙ a .nextMatch;
+    })
+    (d .build-rows .ensures .0)
+
+pub build-tables-spec : {M : Type 1} → statement M
+build-tables-spec =
+    tie.close
+    (tie.spec (λ c κs. tt) (λ c. search needs) returns (λ c. search needs) (λ c. search needs) build-rows-requires (λ c. search needs) (λ c. search needs) (λ c. search needs) (λ c. search needs)
+    returns-2)

@@ -1,0 +1,24 @@
+-- `lyndon::lyndon_runs` meets its contract.
+use Rattle.lyndon.proofs.Replying.{runs-reported}
+use Rattle.lyndon.proofs.lyndon_runs.Statement.{statement}
+use Rattle.lyndon.proofs.lyndon_runs.Tie as tie
+
+returns : tie.Need-returns
+returns c = runs-reported (c .before .before .before .before .before .before .before .before .before .before .before .before .before .before .before .before .before .before .before .report .ensures) (c .runs-reply .ensures)
+
+pub lyndon-runs-spec : {M : Type 1} → statement M
+lyndon-runs-spec =
+    tie.close
+    (tie.spec
+    (λ c κs. tt)
+    (λ c κs. tt)
+    (λ c. c .before .before .before .before .before .before .starts .given)
+    (λ c. c .before .before .before .before .ends .given)
+    (λ c. c .before .before .periods .given)
+    (λ c. c .before .before .before .before .before .before .before .before .before .before .before .before .before .before .before .before .before .before .work-1 .given)
+    (λ c. c .before .before .before .before .before .before .before .before .before .before .before .before .before .before .before .before .work-2 .given)
+    (λ c. c .before .before .before .before .before .before .before .before .before .before .before .before .before .before .work-3 .given)
+    (λ c. c .before .before .before .before .before .before .before .before .before .before .before .before .work-4 .given)
+    (λ c. c .before .before .before .before .before .before .before .before .before .before .work-5 .given)
+    (λ c. c .before .before .before .before .before .before .before .before .work-6 .given)
+    returns)

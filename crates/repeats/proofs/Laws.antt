@@ -1,0 +1,96 @@
+-- The claims of specs/Claims.antt.
+use mathlib.Core.Path.{_≡_, refl, sym}
+use mathlib.Core.Logic.{_⊎_, inl, inr}
+use mathlib.Core.Bool.{Bool, true, false}
+use mathlib.Core.List.{[], _∷_, map}
+use Prim.Native.Nat.{ℕ}
+use native.Mathlib.Omega.{arith}
+use lib.ListN.{length}
+use borrow.Author.Tests.{ltb-true, eq-eqb, ne-eqb}
+use Rattle.suffix.specs.Ranks.{ranks, orientedFrom}
+use Rattle.suffix.specs.Search.{allBelow, anyBelow}
+use Rattle.suffix.specs.Order.{lcp, lce}
+use Rattle.refusal.specs.declared.Refusal.the-variants.{TooLong, TableLength, ListLengths, TooManyRuns}
+use Rattle.refusal.specs.Numbers.{numberIf, firstOf}
+use Rattle.refusal.specs.Conditions.{tooLong}
+use Rattle.refusal.proofs.Numbers.{unless-refused}
+use Rattle.repeats.specs.Runs.{Run, IsRun, hasPeriod, isRun, runAt, runsFrom, runsAfter, runs}
+use Rattle.repeats.specs.Refusals.{listLengthsDiffer, workLengthOff, tooManyRuns, runsRefusal}
+use Rattle.repeats.specs.Answers.{zeros, listsAfter, workAfter}
+use Rattle.repeats.specs.Claims as claims
+use Rattle.repeats.specs.Claims.{ListsRuns}
+use Rattle.repeats.proofs.Meaning.{run-told, tell-run}
+use Rattle.repeats.proofs.Listing.{lists-runs, lists-only}
+use Rattle.repeats.proofs.Roots.{accepted-within, reported-run, run-reported, reported-once, one-order, reversed-run}
+use Rattle.repeats.proofs.Gathering.{gathered-is, fewer-runs, runs-most}
+
+pub testsTellRuns : claims.TestsTellRuns
+testsTellRuns y r = (run-told y r, tell-run y r)
+
+pub reportIsExact : claims.ReportIsExact
+reportIsExact y = (lists-runs y, lists-only y)
+
+pub fewerRunsThanLetters : claims.FewerRunsThanLetters
+fewerRunsThanLetters = fewer-runs
+
+pub bananaHasOneRun : claims.BananaHasOneRun
+unfolding runs runsAfter runsFrom runAt isRun hasPeriod allBelow anyBelow lce lcp
+bananaHasOneRun = refl
+
+pub reversedHasTheSame : claims.ReversedHasTheSame
+reversedHasTheSame top y B = (both, sym (lists-only (orientedFrom top true y) (runs y) L))
+  where
+    both : (r : Run) → (IsRun y r → IsRun (orientedFrom top true y) r) × (IsRun (orientedFrom top true y) r → IsRun y r)
+    both = reversed-run top y B
+
+    L : ListsRuns (orientedFrom top true y) (runs y)
+    L =
+        record {
+          runs-only = λ r m. both r .0 (lists-runs y .runs-only r m);
+          every = λ r I. lists-runs y .every r (both r .1 I);
+          ordered = lists-runs y .ordered;
+        }
+
+pub rootsLeadToRuns : claims.RootsLeadToRuns
+rootsLeadToRuns top y B =
+    record {
+      sound = reported-run top y B;
+      complete = run-reported top y B;
+      once = reported-once top y B;
+      within = accepted-within top y;
+      one-order = one-order top y B;
+      gathers = gathered-is B;
+    }
+
+-- ---- what is refused
+
+thirteen : (a b c d : Bool) → firstOf (numberIf a TooLong ∷ numberIf b TableLength ∷ numberIf c ListLengths ∷ numberIf d TooManyRuns ∷ []) ≡ 13 → d ≡ true
+unfolding firstOf
+thirteen true b c d e = absurd (omega arith)
+thirteen false true c d e = absurd (omega arith)
+thirteen false false true d e = absurd (omega arith)
+thirteen false false false true e = refl
+thirteen false false false false e = absurd (omega arith)
+
+pub enoughRoom : claims.EnoughRoom
+unfolding runsRefusal
+enoughRoom letters work lists h e =
+    let size = length (lists .starts) in
+    let d = thirteen (tooLong (length letters)) (workLengthOff (length letters) (map length work)) (listLengthsDiffer size (length (lists .ends)) (length (lists .periods))) (tooManyRuns (ranks letters) size) e in
+    omega (arith, ltb-true size (length (runs (ranks letters))) d, runs-most (ranks letters))
+
+pub refusalsLeave : claims.RefusalsLeave
+unfolding listsAfter workAfter
+refusalsLeave letters work lists =
+    record {
+      same-lists = unless-refused number _ lists;
+      same-work = λ a b. rw (ne-eqb number 0 a, ne-eqb number 13 b, workAfter);
+      cleared = wiped;
+    }
+  where
+    number : ℕ
+    number = runsRefusal letters work lists
+
+    wiped : (number ≡ 0) ⊎ (number ≡ 13) → workAfter letters work lists ≡ map zeros work
+    wiped (inl e) = rw (eq-eqb number 0 e, workAfter)
+    wiped (inr e) = rw (ne-eqb number 0 (omega arith), eq-eqb number 13 e, workAfter)

@@ -1,0 +1,9 @@
+pub mod Examples
+pub mod Periods
+pub mod Rotations
+pub mod Orders
+pub mod Meaning
+pub mod Listing
+pub mod Roots
+pub mod Gathering
+pub mod Laws

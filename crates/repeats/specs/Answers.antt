@@ -1,0 +1,43 @@
+-- Document 02, T-03: what the report answers, and what it leaves in lent memory.
+use mathlib.Core.Bool.{true, false, _||_}
+use mathlib.Core.List.{List, map}
+use Prim.Native.Nat.{ℕ}
+use lib.Dec.{eqb}
+use lib.ListN.{length, getD, replicate}
+use Rattle.suffix.specs.Search.{tabulate}
+use Rattle.suffix.specs.Ranks.{ranks}
+use Rattle.refusal.specs.Numbers.{unlessRefused}
+use Rattle.repeats.specs.Runs.{Run, runs}
+use Rattle.repeats.specs.Refusals.{Lists, runsRefusal}
+
+-- it "returns their number"; or the refusal's
+pub data Answer : Type 0 where
+  found : (number : ℕ) → Answer
+  refused : (number : ℕ) → Answer
+
+unfoldable pub answer : List ℕ → List (List ℕ) → Lists → Answer
+answer letters work lists = let number = runsRefusal letters work lists in unlessRefused number (found (length (runs (ranks letters)))) (refused number)
+
+-- entry k of three lists is run k; "Entries beyond the number are 0."
+abbrev pub entryOf : List Run → ℕ → Run
+entryOf l k = getD l k (record { start = 0; end = 0; period = 0 })
+
+unfoldable pub listsOf : List Run → ℕ → Lists
+listsOf l size =
+    record {
+      starts = tabulate size (λ k. entryOf l k .start);
+      ends = tabulate size (λ k. entryOf l k .end);
+      periods = tabulate size (λ k. entryOf l k .period);
+    }
+
+-- the lists at exit: a refusal leaves them
+unfoldable pub listsAfter : List ℕ → List (List ℕ) → Lists → Lists
+listsAfter letters work lists = unlessRefused (runsRefusal letters work lists) (listsOf (runs (ranks letters)) (length (lists .starts))) lists
+
+-- the work tables at exit: "They hold 0 afterwards, also after 13, the one refusal that writes them"
+abbrev pub zeros : List ℕ → List ℕ
+zeros table = replicate (length table) 0
+
+unfoldable pub workAfter : List ℕ → List (List ℕ) → Lists → List (List ℕ)
+workAfter letters work lists =
+    let number = runsRefusal letters work lists in elim (eqb number 0 || eqb number 13) [ true ↦ map zeros work | false ↦ work ]

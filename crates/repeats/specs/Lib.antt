@@ -1,0 +1,5 @@
+pub mod Runs
+pub mod Refusals
+pub mod Answers
+pub mod Roots
+pub mod Claims

@@ -1,0 +1,190 @@
+-- The refusals, test by test.
+use mathlib.Core.Path.{_≡_, refl, sym, ap, _∙_}
+use mathlib.Core.Logic.{_≢_, inl, inr}
+use mathlib.Core.Bool.{Bool, true, false, not, _||_, or-false}
+use mathlib.Core.List.{List, [], _∷_, _++_, map}
+use Prim.Native.Nat.{ℕ, _≤_, _<_}
+use native.Mathlib.Omega.{arith}
+use lib.Dec.{eqb}
+use lib.ListN.{length}
+use borrow.Author.Tests.{lt-ltb, le-ltb, ltb-false, eq-eqb, ne-eqb, eqb-true, not-false}
+use Rattle.suffix.specs.Ranks.{ranks}
+use Rattle.refusal.specs.declared.Refusal.{Refusal}
+use Rattle.refusal.specs.declared.Refusal.the-variants.{TooLong, TableLength, ListLengths, TooManyRuns}
+use Rattle.refusal.specs.Numbers.{numberOf, numberIf, firstOf}
+use Rattle.refusal.specs.Conditions.{tooLong}
+use Rattle.refusal.proofs.Numbers.{positive, neither, unless-taken, unless-refused}
+use Rattle.repeats.specs.Runs.{Run, runs}
+use Rattle.repeats.specs.Refusals.{Lists, workLengthOff, listLengthsDiffer, tooManyRuns, lengthsRefusal, runsRefusal}
+use Rattle.repeats.specs.Answers.{answer, listsOf, listsAfter, zeros}
+use Rattle.repeats.proofs.Laws.{refusalsLeave}
+use Rattle.runs.specs.declared.Answer.the-variants.{Found, Refused}
+use Rattle.runs.specs.Reported.{Reported}
+
+-- ---- 2
+
+pub off-here : {a n : ℕ} (others : Bool) → a ≢ n → true ≡ not (eqb a n) || others
+off-here {a} {n} others e = rw (ne-eqb a n e)
+
+pub off-later : {a n : ℕ} {b others : Bool} → a ≡ n → b ≡ others → b ≡ not (eqb a n) || others
+off-later {a} {n} e w = rw (eq-eqb a n e) w
+
+pub off-last : (b : Bool) → b ≡ b || false
+off-last b = sym (or-false b)
+
+-- ---- 1, 2 and 12, by their tests a, b and c, and then 13, by its test d
+
+abbrev numbers : (a b c : Bool) → List ℕ
+numbers a b c = numberIf a TooLong ∷ numberIf b TableLength ∷ numberIf c ListLengths ∷ []
+
+first-one : (a b c : Bool) → a ≡ true → 1 ≡ firstOf (numbers a b c)
+unfolding firstOf
+first-one a b c e = rw e
+
+first-two : (a b c : Bool) → a ≡ false → b ≡ true → 2 ≡ firstOf (numbers a b c)
+unfolding firstOf
+first-two a b c e f = rw (e, f)
+
+first-twelve : (a b c : Bool) → a ≡ false → b ≡ false → c ≡ true → 12 ≡ firstOf (numbers a b c)
+unfolding firstOf
+first-twelve a b c e f g = rw (e, f, g)
+
+first-none : (a b c : Bool) → a ≡ false → b ≡ false → c ≡ false → 0 ≡ firstOf (numbers a b c)
+unfolding firstOf
+first-none a b c e f g = rw (e, f, g)
+
+-- a refusal by lengths is the refusal, and is not 13
+lengths-first : (a b c d : Bool) → firstOf (numbers a b c) ≢ 0 → (firstOf (numbers a b c ++ numberIf d TooManyRuns ∷ []) ≡ firstOf (numbers a b c)) × (firstOf (numbers a b c) ≢ 13)
+unfolding firstOf
+lengths-first true b c d h = (refl, omega arith)
+lengths-first false true c d h = (refl, omega arith)
+lengths-first false false true d h = (refl, omega arith)
+lengths-first false false false d h = absurd (h refl)
+
+-- with none of them 13 is left
+lengths-none : (a b c d : Bool) → firstOf (numbers a b c) ≡ 0 → (a ≡ false) × (b ≡ false) × (c ≡ false) × (firstOf (numbers a b c ++ numberIf d TooManyRuns ∷ []) ≡ numberIf d TooManyRuns)
+unfolding firstOf
+lengths-none true b c d h = absurd (omega arith)
+lengths-none false true c d h = absurd (omega arith)
+lengths-none false false true d h = absurd (omega arith)
+lengths-none false false false true h = (refl, refl, refl, refl)
+lengths-none false false false false h = (refl, refl, refl, refl)
+
+module _ (n : ℕ) (work : List ℕ) (starts ends periods : ℕ) where
+  abbrev differ : Bool
+  differ = listLengthsDiffer starts ends periods
+
+  pub says-one : 1000000 < n → 1 ≡ lengthsRefusal n work starts ends periods
+  unfolding lengthsRefusal
+  says-one h = first-one (tooLong n) (workLengthOff n work) differ (lt-ltb 1000000 n h)
+
+  module _ (h : n ≤ 1000000) where
+    pub says-two : workLengthOff n work ≡ true → 2 ≡ lengthsRefusal n work starts ends periods
+    unfolding lengthsRefusal
+    says-two e = first-two (tooLong n) (workLengthOff n work) differ (le-ltb 1000000 n h) e
+
+    module _ (w : workLengthOff n work ≡ false) where
+      pub says-twelve : ends ≢ starts → 12 ≡ lengthsRefusal n work starts ends periods
+      unfolding lengthsRefusal
+      says-twelve e = first-twelve (tooLong n) (workLengthOff n work) differ (le-ltb 1000000 n h) w (sym (off-here (not (eqb periods starts)) e))
+
+      pub says-twelve-too : ends ≡ starts → periods ≢ starts → 12 ≡ lengthsRefusal n work starts ends periods
+      unfolding lengthsRefusal
+      says-twelve-too e q = first-twelve (tooLong n) (workLengthOff n work) differ (le-ltb 1000000 n h) w (rw (eq-eqb ends starts e, ne-eqb periods starts q))
+
+      pub says-none : ends ≡ starts → periods ≡ starts → 0 ≡ lengthsRefusal n work starts ends periods
+      unfolding lengthsRefusal
+      says-none e q = first-none (tooLong n) (workLengthOff n work) differ (le-ltb 1000000 n h) w (rw (eq-eqb ends starts e, eq-eqb periods starts q))
+
+-- ---- the three ways out
+
+module _ (letters : List ℕ) (work : List (List ℕ)) (lists : Lists) where
+  abbrev size : ℕ
+  size = length (lists .starts)
+
+  abbrev by-lengths : ℕ
+  by-lengths = lengthsRefusal (length letters) (map length work) size (length (lists .ends)) (length (lists .periods))
+
+  pub refused-by-lengths : (k : Refusal) → numberOf k ≡ by-lengths → Reported letters work lists work lists (Refused k)
+  unfolding lengthsRefusal runsRefusal answer
+  refused-by-lengths k e =
+      let L =
+      lengths-first (tooLong (length letters)) (workLengthOff (length letters) (map length work)) (listLengthsDiffer size (length (lists .ends)) (length (lists .periods))) (tooManyRuns (ranks letters) size)
+      (λ z. omega (arith, positive k, e, z)) in
+      let q : numberOf k ≡ runsRefusal letters work lists = e ∙ sym (L .0) in
+      let ne : runsRefusal letters work lists ≢ 0 = (λ z. omega (arith, positive k, q, z)) in
+      let R = refusalsLeave letters work lists in
+      record {
+        answers = ap Rattle.repeats.specs.Answers.refused q ∙ sym (unless-refused (runsRefusal letters work lists) _ _ ne);
+        leaves-lists = sym (R .same-lists ne);
+        leaves-work = sym (R .same-work ne (λ z. L .1 (sym e ∙ q ∙ z)));
+      }
+
+  module _ (taken : by-lengths ≡ 0) where
+    abbrev d : Bool
+    d = tooManyRuns (ranks letters) size
+
+    then-thirteen : runsRefusal letters work lists ≡ numberIf d TooManyRuns
+    unfolding lengthsRefusal runsRefusal
+    then-thirteen = lengths-none (tooLong (length letters)) (workLengthOff (length letters) (map length work)) (listLengthsDiffer size (length (lists .ends)) (length (lists .periods))) d taken .3
+
+    pub refused-by-runs : size < length (runs (ranks letters)) → {cleared : List (List ℕ)} → cleared ≡ map zeros work → Reported letters work lists cleared lists (Refused TooManyRuns)
+    unfolding answer
+    refused-by-runs h w =
+        let q : runsRefusal letters work lists ≡ 13 = then-thirteen ∙ ap (λ b. numberIf b TooManyRuns) (lt-ltb size (length (runs (ranks letters))) h) in
+        let ne : runsRefusal letters work lists ≢ 0 = (λ z. omega (arith, q, z)) in
+        let R = refusalsLeave letters work lists in
+        record {
+          answers = ap Rattle.repeats.specs.Answers.refused (sym q) ∙ sym (unless-refused (runsRefusal letters work lists) _ _ ne);
+          leaves-lists = sym (R .same-lists ne);
+          leaves-work = w ∙ sym (R .cleared (inr q));
+        }
+
+    pub reported : length (runs (ranks letters)) ≤ size → {c : ℕ} {after : Lists} {l : List Run} → c ≡ length (runs (ranks letters)) → after ≡ listsOf l size → l ≡ runs (ranks letters) → {cleared : List (List ℕ)} → cleared ≡ map zeros work → Reported letters work lists cleared after (Found c)
+    unfolding answer listsAfter
+    reported h e f g w =
+        let q : runsRefusal letters work lists ≡ 0 = then-thirteen ∙ ap (λ b. numberIf b TooManyRuns) (le-ltb size (length (runs (ranks letters))) h) in
+        record {
+          answers = ap Rattle.repeats.specs.Answers.found e ∙ sym (unless-taken (runsRefusal letters work lists) _ _ q);
+          leaves-lists = f ∙ ap (λ v. listsOf v size) g ∙ sym (unless-taken (runsRefusal letters work lists) _ _ q);
+          leaves-work = w ∙ sym (refusalsLeave letters work lists .cleared (inl q));
+        }
+
+-- ---- what is lent, where lengths refuse nothing
+
+pub record Fitting (n a b c d e f starts ends periods : ℕ) : Type 0 where
+  pub few : n ≤ 1000000
+  pub previous : a ≡ n
+  pub next : b ≡ n
+  pub previousMatch : c ≡ n
+  pub nextMatch : d ≡ n
+  pub reverseNext : e ≡ n
+  pub reverseMatch : f ≡ n
+  pub as-ends : ends ≡ starts
+  pub as-periods : periods ≡ starts
+
+same-length : (a n : ℕ) (others : Bool) → not (eqb a n) || others ≡ false → (a ≡ n) × (others ≡ false)
+same-length a n others h = let u = neither (not (eqb a n)) others h in (eqb-true a n (not-false _ (u .0)), u .1)
+
+pub fitting : (n a b c d e f starts ends periods : ℕ) → lengthsRefusal n (a ∷ b ∷ c ∷ d ∷ e ∷ f ∷ []) starts ends periods ≡ 0 → Fitting n a b c d e f starts ends periods
+unfolding lengthsRefusal
+fitting n a b c d e f starts ends periods h =
+    let L = lengths-none (tooLong n) (workLengthOff n (a ∷ b ∷ c ∷ d ∷ e ∷ f ∷ [])) (listLengthsDiffer starts ends periods) false h in
+    let p = same-length a n _ (L .1) in
+    let q = same-length b n _ (p .1) in
+    let r = same-length c n _ (q .1) in
+    let s = same-length d n _ (r .1) in
+    let t = same-length e n _ (s .1) in
+    let u = same-length f n _ (t .1) in
+    let v = same-length ends starts _ (L .2) in
+    record {
+      few = ltb-false 1000000 n (L .0);
+      previous = p .0;
+      next = q .0;
+      previousMatch = r .0;
+      nextMatch = s .0;
+      reverseNext = t .0;
+      reverseMatch = u .0;
+      as-ends = v .0;
+      as-periods = eqb-true periods starts (not-false _ (v .1));
+    }

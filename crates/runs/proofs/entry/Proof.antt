@@ -1,0 +1,8 @@
+-- `runs::entry` meets its contract.
+use borrow.Author.Needs.{needs}
+use Rattle.runs.proofs.Writing.{cut-in, cut-out}
+use Rattle.runs.proofs.entry.Statement.{statement}
+use Rattle.runs.proofs.entry.Tie as tie
+
+pub entry-spec : {M : Type 1} → statement M
+entry-spec = tie.close (tie.spec (λ c. search needs) (λ c. search needs) (λ c. cut-in _ _ _ (c .before .if1 .taken)) (λ c. cut-out _ _ _ (c .if1 .left)))

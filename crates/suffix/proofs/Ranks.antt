@@ -1,0 +1,17 @@
+-- Ranks in their order, and in the reverse one.
+use mathlib.Core.Path.{_≡_, refl}
+use mathlib.Core.Bool.{Bool, true, false}
+use mathlib.Core.List.{List, [], _∷_}
+use Prim.Native.Nat.{ℕ, zero, suc, _-_, _<_}
+use native.Mathlib.Omega.{arith}
+use lib.ListN.{length, getD, length-map}
+use Rattle.suffix.specs.Ranks.{orientedFrom}
+
+pub oriented-length : (top : ℕ) (reverse : Bool) (y : List ℕ) → length (orientedFrom top reverse y) ≡ length y
+oriented-length top false y = refl
+oriented-length top true y = length-map y (λ x. top - x)
+
+pub reversed-entry : (top : ℕ) (y : List ℕ) (i : ℕ) → i < length y → getD (orientedFrom top true y) i 0 ≡ top - getD y i 0
+reversed-entry top [] i h = absurd (omega arith)
+reversed-entry top (x ∷ y) zero h = refl
+reversed-entry top (x ∷ y) (suc i) h = reversed-entry top y i (omega arith)
