@@ -7,22 +7,22 @@ use lib.ListN.{length}
 use denote.Ref.{RefT}
 use Rattle.build.specs.declared.Built.{Built}
 use Rattle.build.specs.Built as build
+use Rattle.refusal.specs.declared.Answer.{Answer}
 use Rattle.refusal.specs.declared.Verdict.{Verdict}
 use Rattle.refusal.specs.Numbers.{verdictNumber}
 use Rattle.refusal.specs.Conditions.{wordRefusal}
 use Rattle.brackets.specs.Answers as brackets
-use Rattle.questions.specs.Answers as questions
+use Rattle.refusal.specs.Answers as refusal
 use Rattle.word.specs.Word.{WordAnswered}
 use Rattle.word.proofs.Laws.{part-refused, start-refused, start-taken}
 use Rattle.repeats.specs.Refusals.{Lists}
-use Rattle.runs.specs.declared.Answer as runs
-use Rattle.runs.specs.Reported.{answerOf, Reported}
+use Rattle.runs.specs.Reported.{Reported}
 use Rattle.cabinet.specs.Answers.{Written, EntryRead}
 use Rattle.lyndon.specs.declared.BuildReply.{BuildReply}
 use Rattle.lyndon.specs.declared.Reply.{Reply}
 use Rattle.lyndon.specs.declared.PartReply.{PartReply}
 use Rattle.lyndon.specs.declared.CabinetReply.{CabinetReply}
-use Rattle.lyndon.specs.Replies.{buildReply, BuildReplied, ReadReplied, WriteReplied, RunsReplied, reply, wordReply, runsReply, cabinetReply}
+use Rattle.lyndon.specs.Replies.{buildReply, BuildReplied, ReadReplied, WriteReplied, RunsReplied, reply, wordReply, cabinetReply}
 
 -- a build that answers with a, and a reply with the figures of a
 pub built :
@@ -67,18 +67,18 @@ entry-read e z s = rw (s, e .refusal, e .letters, e .place, e .body, z)
 
 -- What the called function tells of its answer's figures. It is found first and compared with the reply afterwards, so a function that asks
 -- another question is refused by the names of the two answers.
-pub data Told (a : questions.Figures) : Type 0 where
-  told : {b : questions.Figures} → a ≡ b → Told a
+pub data Told (a : refusal.Figures) : Type 0 where
+  told : {b : refusal.Figures} → a ≡ b → Told a
 
-abbrev pub figures : {a : questions.Figures} → Told a → questions.Figures
+abbrev pub figures : {a : refusal.Figures} → Told a → refusal.Figures
 figures (told {b} e) = b
 
 -- a question
-pub answered : {given : Reply} {a : questions.Figures} → given ≡ reply a → (t : Told a) → given ≡ reply (figures t)
+pub answered : {given : Reply} {a : refusal.Figures} → given ≡ reply a → (t : Told a) → given ≡ reply (figures t)
 answered z (told e) = z ∙ ap reply e
 
 -- a report of all runs that answers with a, and a reply with its figures
 pub runs-reported :
-    {letters : List ℕ} {work workExit : List (List ℕ)} {lists listsExit : Lists} {a : runs.Answer} {given : Reply} → Reported letters work lists workExit listsExit a
-    → given ≡ runsReply (answerOf a) → RunsReplied letters work lists workExit listsExit given
-runs-reported e z = record { replies = z ∙ ap runsReply (e .answers); leaves-lists = e .leaves-lists; leaves-work = e .leaves-work }
+    {y : List ℕ} {work workExit : List (List ℕ)} {lists listsExit : Lists} {a : Answer} {given : Reply} → Reported y work lists workExit listsExit a
+    → given ≡ reply (refusal.figuresOf a) → RunsReplied y work lists workExit listsExit given
+runs-reported e z = record { replies = z ∙ ap reply (e .answers); leaves-lists = e .leaves-lists; leaves-work = e .leaves-work }

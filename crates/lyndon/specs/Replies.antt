@@ -6,7 +6,7 @@ use lib.ListN.{length}
 use Rattle.refusal.specs.Conditions.{wordRefusal}
 use Rattle.build.specs.Built as build
 use Rattle.brackets.specs.Answers as brackets
-use Rattle.questions.specs.Answers as questions
+use Rattle.refusal.specs.Answers as refusal
 use Rattle.word.specs.Word.{wordPart, wordStart}
 use Rattle.repeats.specs.Refusals.{Lists}
 use Rattle.repeats.specs.Answers as repeats
@@ -39,24 +39,20 @@ pub record ReadReplied (n : ℕ) (tree : List ℕ) (before after : brackets.Lent
   pub leaves : after ≡ brackets.lentAtExit n tree before
 
 -- a question put to a tree
-unfoldable pub reply : questions.Figures → Reply
-reply (questions.value v) = record { refusal = 0; value = v }
-reply (questions.refused number) = record { refusal = number; value = 0 }
+unfoldable pub reply : refusal.Figures → Reply
+reply (refusal.value v) = record { refusal = 0; value = v }
+reply (refusal.refused number) = record { refusal = number; value = 0 }
 
 -- the longest Lyndon word: where it starts in the letters, and its length
 abbrev pub wordReply : List ℕ → ℕ → PartReply
 wordReply letters position =
     record { refusal = wordRefusal (length letters) position; start = wordStart letters position; length = length (wordPart letters position) }
 
--- the report of all runs: their number
-unfoldable pub runsReply : repeats.Answer → Reply
-runsReply (repeats.found number) = record { refusal = 0; value = number }
-runsReply (repeats.refused number) = record { refusal = number; value = 0 }
-
-pub record RunsReplied (letters : List ℕ) (work : List (List ℕ)) (lists : Lists) (workExit : List (List ℕ)) (listsExit : Lists) (given : Reply) : Type 0 where
-  pub replies : given ≡ runsReply (repeats.answer letters work lists)
-  pub leaves-lists : listsExit ≡ repeats.listsAfter letters work lists
-  pub leaves-work : workExit ≡ repeats.workAfter letters work lists
+-- the report of all runs
+pub record RunsReplied (y : List ℕ) (work : List (List ℕ)) (lists : Lists) (workExit : List (List ℕ)) (listsExit : Lists) (given : Reply) : Type 0 where
+  pub replies : given ≡ reply (repeats.answer y work lists)
+  pub leaves-lists : listsExit ≡ repeats.listsAfter y work lists
+  pub leaves-work : workExit ≡ repeats.workAfter y work lists
 
 -- writing a cabinet file
 pub record WriteReplied (counts trees before after : List ℕ) (number : ℕ) : Type 0 where

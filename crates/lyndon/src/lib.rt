@@ -1,12 +1,14 @@
 // The exported functions: each passes its arguments on to the crate that does the work.
 ghost use mathlib.Core.Path.{_≡_};
+ghost use Rattle.suffix.specs.Ranks.{ranks};
 ghost use Rattle.build.specs.Built.{lent, figuresOf as builtFigures};
-ghost use Rattle.questions.specs.Answers.{figuresOf, previousAnswer, nextAnswer, placeAnswer};
+ghost use Rattle.refusal.specs.Answers.{figuresOf};
+ghost use Rattle.questions.specs.Answers.{previousAnswer, nextAnswer, placeAnswer};
 ghost use Rattle.runs.specs.States.{lists};
-ghost use Rattle.runs.specs.Reported.{workOf, answerOf};
-ghost use Rattle.lyndon.specs.Replies.{interfaceVersion, BuildReplied, ReadReplied, RunsReplied, WriteReplied, buildReply, reply, wordReply, runsReply, cabinetReply};
+ghost use Rattle.runs.specs.Reported.{workOf};
+ghost use Rattle.lyndon.specs.Replies.{interfaceVersion, BuildReplied, ReadReplied, RunsReplied, WriteReplied, buildReply, reply, wordReply, cabinetReply};
 use build::Built;
-use questions::Answer;
+use refusal::Answer;
 
 // LYNDON_VERSION of the header.
 const VERSION: u32 = 1;
@@ -174,21 +176,6 @@ pub extern "C" fn lyndon_word(letters: &[u8], position: usize) -> PartReply
     }
 }
 
-fn runs_reply(answer: runs::Answer) -> Reply
-    ensures { λ r. ⌜ r ≡ runsReply (answerOf answer) ⌝ }
-{
-    match answer {
-        runs::Answer::Found(number) => Reply {
-            refusal: 0,
-            value: number,
-        },
-        runs::Answer::Refused(k) => Reply {
-            refusal: refusal::number(k),
-            value: 0,
-        },
-    }
-}
-
 #[no_mangle]
 pub extern "C" fn lyndon_runs(
     letters: &[u8],
@@ -203,14 +190,14 @@ pub extern "C" fn lyndon_runs(
     work_6: &mut [u32],
 ) -> Reply
     ensures { λ r.
-        ⌜ RunsReplied (now (letters .entry))
+        ⌜ RunsReplied (ranks (now (letters .entry)))
         (workOf (now («work_1» .entry)) (now («work_2» .entry)) (now («work_3» .entry)) (now («work_4» .entry)) (now («work_5» .entry)) (now («work_6» .entry)))
         (lists (now (starts .entry)) (now (ends .entry)) (now (periods .entry)))
         (workOf (now («work_1» .exit)) (now («work_2» .exit)) (now («work_3» .exit)) (now («work_4» .exit)) (now («work_5» .exit)) (now («work_6» .exit)))
         (lists (now (starts .exit)) (now (ends .exit)) (now (periods .exit)))
         r ⌝ }
 {
-    runs_reply(runs::report(
+    reply_of(runs::report(
         letters,
         work_1,
         work_2,

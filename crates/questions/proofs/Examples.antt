@@ -2,10 +2,11 @@
 use mathlib.Core.Path.{_≡_, refl}
 use mathlib.Core.List.{[], _∷_}
 use Rattle.suffix.specs.Search.{leastFrom, anyBelow, countBelow}
-use Rattle.refusal.specs.Numbers.{lowestFrom, lowest}
+use Rattle.refusal.specs.Numbers.{lowestFrom, lowest, unlessRefused}
 use Rattle.refusal.specs.Conditions.{byteBit, bitOf, spareBitSet, closedTooEarly, leftOpen, questionRefusal}
 use Rattle.shape.specs.Shape.{forestsFrom, shapeOf, previousTable, nextTable}
-use Rattle.questions.specs.Answers.{value, refused, placeOf, previousAnswer, nextAnswer, placeAnswer}
+use Rattle.refusal.specs.Answers.{value, refused}
+use Rattle.questions.specs.Answers.{placeOf, previousAnswer, nextAnswer, placeAnswer}
 
 questions :
     previousAnswer 6 (0xCD ∷ 0x04 ∷ []) 4
@@ -20,6 +21,7 @@ unfolding
     leastFrom
     lowestFrom
     lowest
+    unlessRefused
     byteBit
     bitOf
     spareBitSet

@@ -8,9 +8,10 @@ use Rattle.refusal.specs.Conditions.{questionRefusal}
 use Rattle.shape.specs.Shape.{previousTable, nextTable}
 use Rattle.shape.proofs.Conditions.{tree-flaw, question-flaw}
 use Rattle.shape.proofs.Laws.{whole, finishedTree}
-use Rattle.questions.specs.Answers.{value, previousAnswer, nextAnswer}
+use Rattle.refusal.specs.Answers.{value}
+use Rattle.questions.specs.Answers.{previousAnswer, nextAnswer}
 use Rattle.questions.specs.Claims.{QuestionsOfTheFinished}
-use Rattle.questions.proofs.Answering.{answered-value}
+use Rattle.refusal.proofs.Answers.{answered-value}
 
 pub questionsOfTheFinished : QuestionsOfTheFinished
 unfolding previousAnswer nextAnswer

@@ -1,5 +1,4 @@
 pub mod Examples
-pub mod Answering
 pub mod Counting
 pub mod Questions
 pub mod Laws

@@ -13,13 +13,14 @@ use Rattle.suffix.proofs.Cases.{Tri, lt, eq, gt, tri, Test, holds, fails, test,
 use Rattle.suffix.proofs.Search.{Least, found, absent, least}
 use Rattle.refusal.specs.Conditions.{bitOf, openings, flawNumber, questionRefusal}
 use Rattle.shape.specs.Shape.{previousTable, nextTable}
-use Rattle.questions.specs.Answers.{value, placeOf, placeAnswer}
+use Rattle.refusal.specs.Answers.{value}
+use Rattle.questions.specs.Answers.{placeOf, placeAnswer}
 use Rattle.shape.specs.Heights.{opened}
 use Rattle.search.specs.Searching.{Fell, isMinus, Searched}
 use Rattle.shape.proofs.Heights.{opens, shuts, opened-grows, opening-one, Entry, ClosedAt, Encloses, by, root, closed-once, enclosed-once}
 use Rattle.shape.proofs.Reading.{Balanced}
 use Rattle.shape.proofs.Entries.{table-entry}
-use Rattle.questions.proofs.Answering.{answered-told}
+use Rattle.refusal.proofs.Answers.{answered-told}
 use Rattle.search.proofs.Legs.{not-fallen, has-fallen}
 use Rattle.shape.proofs.Conditions.{sound, question-1, question-3, question-5, question-flaw}
 

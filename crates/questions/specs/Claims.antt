@@ -5,7 +5,8 @@ use Prim.Native.Nat.{ℕ, _≤_, _<_}
 use lib.ListN.{length}
 use Rattle.suffix.specs.Nearest.{previous, next}
 use Rattle.suffix.specs.Tree.{treeBytes}
-use Rattle.questions.specs.Answers.{value, previousAnswer, nextAnswer}
+use Rattle.refusal.specs.Answers.{value}
+use Rattle.questions.specs.Answers.{previousAnswer, nextAnswer}
 
 -- questions put to the tree of a finished build
 abbrev pub QuestionsOfTheFinished : Type 0

@@ -1,18 +1,15 @@
 // Questions put to a tree of brackets: the place of a position's opening, its next and its previous entry.
 ghost use mathlib.Core.Path.{_≡_};
 ghost use Rattle.refusal.specs.Numbers.{verdictNumber};
+ghost use Rattle.refusal.specs.Answers.{figuresOf};
 ghost use Rattle.refusal.specs.Conditions.{questionRefusal};
-ghost use Rattle.questions.specs.Answers.{figuresOf, placeAnswer, nextAnswer, previousAnswer};
+ghost use Rattle.questions.specs.Answers.{placeAnswer, nextAnswer, previousAnswer};
 use openings::select;
+use refusal::Answer;
 use refusal::Refusal;
 use refusal::Verdict;
 
 mod openings;
-
-pub enum Answer {
-    Value(usize),
-    NoValue(Refusal),
-}
 
 // Refusals 1, 3, 5, 6, 7, 8 of a question: 5 comes between those that the verdict on the tree tests.
 fn question(n: usize, tree: &[u8], position: usize) -> Verdict

@@ -1,3 +1,4 @@
 pub mod Examples
 pub mod Numbers
+pub mod Answers
 pub mod Tables

@@ -19,6 +19,12 @@ pub enum Refusal {
     TooManyRuns,
 }
 
+// A number that is asked for, or why there is none.
+pub enum Answer {
+    Value(usize),
+    NoValue(Refusal),
+}
+
 // Whether an operation takes what it is given.
 pub enum Verdict {
     Accepted,

@@ -7,7 +7,7 @@ use Prim.Native.Nat.{ℕ}
 use native.Mathlib.Omega.{arith}
 use lib.ListN.{length}
 use borrow.Author.Tests.{ltb-true, eq-eqb, ne-eqb}
-use Rattle.suffix.specs.Ranks.{ranks, orientedFrom}
+use Rattle.suffix.specs.Ranks.{orientedFrom}
 use Rattle.suffix.specs.Search.{allBelow, anyBelow}
 use Rattle.suffix.specs.Order.{lcp, lce}
 use Rattle.refusal.specs.declared.Refusal.the-variants.{TooLong, TableLength, ListLengths, TooManyRuns}
@@ -74,14 +74,14 @@ thirteen false false false false e = absurd (omega arith)
 
 pub enoughRoom : claims.EnoughRoom
 unfolding runsRefusal
-enoughRoom letters work lists h e =
+enoughRoom y work lists h e =
     let size = length (lists .starts) in
-    let d = thirteen (tooLong (length letters)) (workLengthOff (length letters) (map length work)) (listLengthsDiffer size (length (lists .ends)) (length (lists .periods))) (tooManyRuns (ranks letters) size) e in
-    omega (arith, ltb-true size (length (runs (ranks letters))) d, runs-most (ranks letters))
+    let d = thirteen (tooLong (length y)) (workLengthOff (length y) (map length work)) (listLengthsDiffer size (length (lists .ends)) (length (lists .periods))) (tooManyRuns y size) e in
+    omega (arith, ltb-true size (length (runs y)) d, runs-most y)
 
 pub refusalsLeave : claims.RefusalsLeave
 unfolding listsAfter workAfter
-refusalsLeave letters work lists =
+refusalsLeave y work lists =
     record {
       same-lists = unless-refused number _ lists;
       same-work = λ a b. rw (ne-eqb number 0 a, ne-eqb number 13 b, workAfter);
@@ -89,8 +89,8 @@ refusalsLeave letters work lists =
     }
   where
     number : ℕ
-    number = runsRefusal letters work lists
+    number = runsRefusal y work lists
 
-    wiped : (number ≡ 0) ⊎ (number ≡ 13) → workAfter letters work lists ≡ map zeros work
+    wiped : (number ≡ 0) ⊎ (number ≡ 13) → workAfter y work lists ≡ map zeros work
     wiped (inl e) = rw (eq-eqb number 0 e, workAfter)
     wiped (inr e) = rw (ne-eqb number 0 (omega arith), eq-eqb number 13 e, workAfter)

@@ -5,18 +5,14 @@ use Prim.Native.Nat.{ℕ}
 use lib.Dec.{eqb}
 use lib.ListN.{length, getD, replicate}
 use Rattle.suffix.specs.Search.{tabulate}
-use Rattle.suffix.specs.Ranks.{ranks}
 use Rattle.refusal.specs.Numbers.{unlessRefused}
+use Rattle.refusal.specs.Answers.{Figures, answered}
 use Rattle.repeats.specs.Runs.{Run, runs}
 use Rattle.repeats.specs.Refusals.{Lists, runsRefusal}
 
--- it "returns their number"; or the refusal's
-pub data Answer : Type 0 where
-  found : (number : ℕ) → Answer
-  refused : (number : ℕ) → Answer
-
-unfoldable pub answer : List ℕ → List (List ℕ) → Lists → Answer
-answer letters work lists = let number = runsRefusal letters work lists in unlessRefused number (found (length (runs (ranks letters)))) (refused number)
+-- it "returns their number"
+unfoldable pub answer : List ℕ → List (List ℕ) → Lists → Figures
+answer y work lists = answered (runsRefusal y work lists) (length (runs y))
 
 -- entry k of three lists is run k; "Entries beyond the number are 0."
 abbrev pub entryOf : List Run → ℕ → Run
@@ -32,12 +28,12 @@ listsOf l size =
 
 -- the lists at exit: a refusal leaves them
 unfoldable pub listsAfter : List ℕ → List (List ℕ) → Lists → Lists
-listsAfter letters work lists = unlessRefused (runsRefusal letters work lists) (listsOf (runs (ranks letters)) (length (lists .starts))) lists
+listsAfter y work lists = unlessRefused (runsRefusal y work lists) (listsOf (runs y) (length (lists .starts))) lists
 
 -- the work tables at exit: "They hold 0 afterwards, also after 13, the one refusal that writes them"
 abbrev pub zeros : List ℕ → List ℕ
 zeros table = replicate (length table) 0
 
 unfoldable pub workAfter : List ℕ → List (List ℕ) → Lists → List (List ℕ)
-workAfter letters work lists =
-    let number = runsRefusal letters work lists in elim (eqb number 0 || eqb number 13) [ true ↦ map zeros work | false ↦ work ]
+workAfter y work lists =
+    let number = runsRefusal y work lists in elim (eqb number 0 || eqb number 13) [ true ↦ map zeros work | false ↦ work ]

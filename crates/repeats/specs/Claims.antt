@@ -48,16 +48,16 @@ BananaHasOneRun = runs (98 ∷ 97 ∷ 110 ∷ 97 ∷ 110 ∷ 97 ∷ []) ≡ reco
 -- T-14: "so 13 never occurs with lists of n − 1 entries or more"
 abbrev pub EnoughRoom : Type 0
 EnoughRoom =
-    (letters : List ℕ) (work : List (List ℕ)) (lists : Lists) → length letters - 1 ≤ length (lists .starts) → runsRefusal letters work lists ≢ 13
+    (y : List ℕ) (work : List (List ℕ)) (lists : Lists) → length y - 1 ≤ length (lists .starts) → runsRefusal y work lists ≢ 13
 
 -- what is left by a refusal: the lists; and the work tables, but for 13
-pub record Leaves (letters : List ℕ) (work : List (List ℕ)) (lists : Lists) : Type 0 where
-  pub same-lists : runsRefusal letters work lists ≢ 0 → listsAfter letters work lists ≡ lists
-  pub same-work : runsRefusal letters work lists ≢ 0 → runsRefusal letters work lists ≢ 13 → workAfter letters work lists ≡ work
-  pub cleared : (runsRefusal letters work lists ≡ 0) ⊎ (runsRefusal letters work lists ≡ 13) → workAfter letters work lists ≡ map zeros work
+pub record Leaves (y : List ℕ) (work : List (List ℕ)) (lists : Lists) : Type 0 where
+  pub same-lists : runsRefusal y work lists ≢ 0 → listsAfter y work lists ≡ lists
+  pub same-work : runsRefusal y work lists ≢ 0 → runsRefusal y work lists ≢ 13 → workAfter y work lists ≡ work
+  pub cleared : (runsRefusal y work lists ≡ 0) ⊎ (runsRefusal y work lists ≡ 13) → workAfter y work lists ≡ map zeros work
 
 abbrev pub RefusalsLeave : Type 0
-RefusalsLeave = (letters : List ℕ) (work : List (List ℕ)) (lists : Lists) → Leaves letters work lists
+RefusalsLeave = (y : List ℕ) (work : List (List ℕ)) (lists : Lists) → Leaves y work lists
 
 -- ---- the two orders
 

@@ -4,7 +4,6 @@ use mathlib.Core.List.{List, [], _∷_, _++_, map}
 use Prim.Native.Nat.{ℕ}
 use lib.Dec.{eqb, ltb}
 use lib.ListN.{length}
-use Rattle.suffix.specs.Ranks.{ranks}
 use Rattle.refusal.specs.declared.Refusal.the-variants.{TooLong, TableLength, ListLengths, TooManyRuns}
 use Rattle.refusal.specs.Numbers.{firstOf, numberIf}
 use Rattle.refusal.specs.Conditions.{tooLong, tableLengthOff}
@@ -39,9 +38,9 @@ unfoldable pub lengthsRefusal : ℕ → List ℕ → (starts ends periods : ℕ)
 lengthsRefusal n work starts ends periods = firstOf (lengthNumbers n work starts ends periods)
 
 unfoldable pub runsRefusal : List ℕ → List (List ℕ) → Lists → ℕ
-runsRefusal letters work lists =
+runsRefusal y work lists =
     let size = length (lists .starts) in
     firstOf
-    (lengthNumbers (length letters) (map length work) size (length (lists .ends)) (length (lists .periods))
-    ++ numberIf (tooManyRuns (ranks letters) size) TooManyRuns
+    (lengthNumbers (length y) (map length work) size (length (lists .ends)) (length (lists .periods))
+    ++ numberIf (tooManyRuns y size) TooManyRuns
     ∷ [])

@@ -18,7 +18,8 @@ use Rattle.repeats.specs.Runs.{Run, runs}
 use Rattle.repeats.specs.Refusals.{Lists, workLengthOff, listLengthsDiffer, tooManyRuns, lengthsRefusal, runsRefusal}
 use Rattle.repeats.specs.Answers.{answer, listsOf, listsAfter, zeros}
 use Rattle.repeats.proofs.Laws.{refusalsLeave}
-use Rattle.runs.specs.declared.Answer.the-variants.{Found, Refused}
+use Rattle.refusal.specs.Answers.{value, refused}
+use Rattle.refusal.specs.declared.Answer.the-variants.{Value, NoValue}
 use Rattle.runs.specs.Reported.{Reported}
 
 -- ---- 2
@@ -98,56 +99,56 @@ module _ (n : ℕ) (work : List ℕ) (starts ends periods : ℕ) where
 
 -- ---- the three ways out
 
-module _ (letters : List ℕ) (work : List (List ℕ)) (lists : Lists) where
+module _ (y : List ℕ) (work : List (List ℕ)) (lists : Lists) where
   abbrev size : ℕ
   size = length (lists .starts)
 
   abbrev by-lengths : ℕ
-  by-lengths = lengthsRefusal (length letters) (map length work) size (length (lists .ends)) (length (lists .periods))
+  by-lengths = lengthsRefusal (length y) (map length work) size (length (lists .ends)) (length (lists .periods))
 
-  pub refused-by-lengths : (k : Refusal) → numberOf k ≡ by-lengths → Reported letters work lists work lists (Refused k)
+  pub refused-by-lengths : (k : Refusal) → numberOf k ≡ by-lengths → Reported y work lists work lists (NoValue k)
   unfolding lengthsRefusal runsRefusal answer
   refused-by-lengths k e =
       let L =
-      lengths-first (tooLong (length letters)) (workLengthOff (length letters) (map length work)) (listLengthsDiffer size (length (lists .ends)) (length (lists .periods))) (tooManyRuns (ranks letters) size)
+      lengths-first (tooLong (length y)) (workLengthOff (length y) (map length work)) (listLengthsDiffer size (length (lists .ends)) (length (lists .periods))) (tooManyRuns y size)
       (λ z. omega (arith, positive k, e, z)) in
-      let q : numberOf k ≡ runsRefusal letters work lists = e ∙ sym (L .0) in
-      let ne : runsRefusal letters work lists ≢ 0 = (λ z. omega (arith, positive k, q, z)) in
-      let R = refusalsLeave letters work lists in
+      let q : numberOf k ≡ runsRefusal y work lists = e ∙ sym (L .0) in
+      let ne : runsRefusal y work lists ≢ 0 = (λ z. omega (arith, positive k, q, z)) in
+      let R = refusalsLeave y work lists in
       record {
-        answers = ap Rattle.repeats.specs.Answers.refused q ∙ sym (unless-refused (runsRefusal letters work lists) _ _ ne);
+        answers = ap refused q ∙ sym (unless-refused (runsRefusal y work lists) _ _ ne);
         leaves-lists = sym (R .same-lists ne);
         leaves-work = sym (R .same-work ne (λ z. L .1 (sym e ∙ q ∙ z)));
       }
 
   module _ (taken : by-lengths ≡ 0) where
     abbrev d : Bool
-    d = tooManyRuns (ranks letters) size
+    d = tooManyRuns y size
 
-    then-thirteen : runsRefusal letters work lists ≡ numberIf d TooManyRuns
+    then-thirteen : runsRefusal y work lists ≡ numberIf d TooManyRuns
     unfolding lengthsRefusal runsRefusal
-    then-thirteen = lengths-none (tooLong (length letters)) (workLengthOff (length letters) (map length work)) (listLengthsDiffer size (length (lists .ends)) (length (lists .periods))) d taken .3
+    then-thirteen = lengths-none (tooLong (length y)) (workLengthOff (length y) (map length work)) (listLengthsDiffer size (length (lists .ends)) (length (lists .periods))) d taken .3
 
-    pub refused-by-runs : size < length (runs (ranks letters)) → {cleared : List (List ℕ)} → cleared ≡ map zeros work → Reported letters work lists cleared lists (Refused TooManyRuns)
+    pub refused-by-runs : size < length (runs y) → {cleared : List (List ℕ)} → cleared ≡ map zeros work → Reported y work lists cleared lists (NoValue TooManyRuns)
     unfolding answer
     refused-by-runs h w =
-        let q : runsRefusal letters work lists ≡ 13 = then-thirteen ∙ ap (λ b. numberIf b TooManyRuns) (lt-ltb size (length (runs (ranks letters))) h) in
-        let ne : runsRefusal letters work lists ≢ 0 = (λ z. omega (arith, q, z)) in
-        let R = refusalsLeave letters work lists in
+        let q : runsRefusal y work lists ≡ 13 = then-thirteen ∙ ap (λ b. numberIf b TooManyRuns) (lt-ltb size (length (runs y)) h) in
+        let ne : runsRefusal y work lists ≢ 0 = (λ z. omega (arith, q, z)) in
+        let R = refusalsLeave y work lists in
         record {
-          answers = ap Rattle.repeats.specs.Answers.refused (sym q) ∙ sym (unless-refused (runsRefusal letters work lists) _ _ ne);
+          answers = ap refused (sym q) ∙ sym (unless-refused (runsRefusal y work lists) _ _ ne);
           leaves-lists = sym (R .same-lists ne);
           leaves-work = w ∙ sym (R .cleared (inr q));
         }
 
-    pub reported : length (runs (ranks letters)) ≤ size → {c : ℕ} {after : Lists} {l : List Run} → c ≡ length (runs (ranks letters)) → after ≡ listsOf l size → l ≡ runs (ranks letters) → {cleared : List (List ℕ)} → cleared ≡ map zeros work → Reported letters work lists cleared after (Found c)
+    pub reported : length (runs y) ≤ size → {c : ℕ} {after : Lists} {l : List Run} → c ≡ length (runs y) → after ≡ listsOf l size → l ≡ runs y → {cleared : List (List ℕ)} → cleared ≡ map zeros work → Reported y work lists cleared after (Value c)
     unfolding answer listsAfter
     reported h e f g w =
-        let q : runsRefusal letters work lists ≡ 0 = then-thirteen ∙ ap (λ b. numberIf b TooManyRuns) (le-ltb size (length (runs (ranks letters))) h) in
+        let q : runsRefusal y work lists ≡ 0 = then-thirteen ∙ ap (λ b. numberIf b TooManyRuns) (le-ltb size (length (runs y)) h) in
         record {
-          answers = ap Rattle.repeats.specs.Answers.found e ∙ sym (unless-taken (runsRefusal letters work lists) _ _ q);
-          leaves-lists = f ∙ ap (λ v. listsOf v size) g ∙ sym (unless-taken (runsRefusal letters work lists) _ _ q);
-          leaves-work = w ∙ sym (refusalsLeave letters work lists .cleared (inl q));
+          answers = ap value e ∙ sym (unless-taken (runsRefusal y work lists) _ _ q);
+          leaves-lists = f ∙ ap (λ v. listsOf v size) g ∙ sym (unless-taken (runsRefusal y work lists) _ _ q);
+          leaves-work = w ∙ sym (refusalsLeave y work lists .cleared (inl q));
         }
 
 -- ---- what is lent, where lengths refuse nothing

@@ -14,14 +14,9 @@ ghost use Rattle.repeats.specs.Answers.{zeros, listsOf};
 ghost use Rattle.repeats.specs.Roots.{leftOf, reportOf, before};
 ghost use Rattle.runs.specs.States.{runOf, lists, entryIn, entries, stored, Has, passes, Within, Judged, Insertable, Put, Tabled, cutAt};
 ghost use Rattle.runs.specs.Reported.{workOf, Reported};
+use refusal::Answer;
 use refusal::Refusal;
 use refusal::Verdict;
-
-// The number of runs, or why none are reported.
-pub enum Answer {
-    Found(usize),
-    Refused(Refusal),
-}
 
 // A run, or 0 three times for none.
 struct Run {
@@ -430,7 +425,7 @@ pub fn report(
     periods: &mut [u32],
 ) -> Answer
     ensures { λ r.
-        ⌜ Reported (now (letters .entry))
+        ⌜ Reported (ranks (now (letters .entry)))
         (workOf (now (previous .entry)) (now (next .entry)) (now («previous_match» .entry)) (now («next_match» .entry)) (now («reverse_next» .entry)) (now («reverse_match» .entry)))
         (lists (now (starts .entry)) (now (ends .entry)) (now (periods .entry)))
         (workOf (now (previous .exit)) (now (next .exit)) (now («previous_match» .exit)) (now («next_match» .exit)) (now («reverse_next» .exit)) (now («reverse_match» .exit)))
@@ -450,7 +445,7 @@ pub fn report(
         periods.len(),
     );
     if let Verdict::Refused(refusal) = verdict {
-        return Answer::Refused(refusal);
+        return Answer::NoValue(refusal);
     }
     let count = gather_all(
         letters,
@@ -470,7 +465,7 @@ pub fn report(
             reverse_next,
             reverse_match,
         );
-        return Answer::Refused(Refusal::TooManyRuns);
+        return Answer::NoValue(Refusal::TooManyRuns);
     }
     write_lists(previous, previous_match, next, count, starts, ends, periods);
     clear_all(
@@ -481,5 +476,5 @@ pub fn report(
         reverse_next,
         reverse_match,
     );
-    Answer::Found(count)
+    Answer::Value(count)
 }

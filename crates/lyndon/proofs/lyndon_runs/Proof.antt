@@ -4,7 +4,7 @@ use Rattle.lyndon.proofs.lyndon_runs.Statement.{statement}
 use Rattle.lyndon.proofs.lyndon_runs.Tie as tie
 
 returns : tie.Need-returns
-returns c = runs-reported (c .before .before .before .before .before .before .before .before .before .before .before .before .before .before .before .before .before .before .before .report .ensures) (c .runs-reply .ensures)
+returns c = runs-reported (c .before .before .before .before .before .before .before .before .before .before .before .before .before .before .before .before .before .before .before .report .ensures) (c .reply-of .ensures)
 
 pub lyndon-runs-spec : {M : Type 1} → statement M
 lyndon-runs-spec =

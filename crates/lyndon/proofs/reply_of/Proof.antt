@@ -1,7 +1,7 @@
 -- `lyndon::reply_of` meets its contract.
 use mathlib.Core.Path.{sym, ap, _∙_}
-use Rattle.questions.specs.Answers.{figuresOf, refused}
-use Rattle.questions.specs.declared.Answer.{Answer}
+use Rattle.refusal.specs.Answers.{figuresOf, refused}
+use Rattle.refusal.specs.declared.Answer.{Answer}
 use Rattle.lyndon.specs.Replies.{reply}
 use Rattle.lyndon.proofs.reply_of.Statement.{statement}
 use Rattle.lyndon.proofs.reply_of.Tie as tie

@@ -8,8 +8,9 @@ use Rattle.refusal.specs.Conditions.{bitOf, questionRefusal}
 use Rattle.shape.specs.Shape.{nextTable}
 use Rattle.search.specs.Searching.{Finds}
 use Rattle.search.proofs.Asked.{is-within}
-use Rattle.questions.specs.Answers.{value, figuresOf, placeOf, placeAnswer, nextAnswer}
-use Rattle.questions.proofs.Answering.{answered-value, refused-alike}
+use Rattle.refusal.specs.Answers.{value, figuresOf}
+use Rattle.questions.specs.Answers.{placeOf, placeAnswer, nextAnswer}
+use Rattle.refusal.proofs.Answers.{answered-value, refused-alike}
 use Rattle.questions.proofs.Questions.{Placed, placed, next-found}
 use Rattle.questions.proofs.next_of.Statement.{statement}
 use Rattle.questions.proofs.next_of.Tie as tie

@@ -4,9 +4,10 @@ use native.Mathlib.Omega.{arith}
 use borrow.Author.Needs.{needs}
 use Rattle.refusal.specs.Numbers.{verdictNumber}
 use Rattle.refusal.specs.Conditions.{questionRefusal}
-use Rattle.questions.specs.Answers.{placeAnswer, placeOf, value}
+use Rattle.refusal.specs.Answers.{value}
+use Rattle.questions.specs.Answers.{placeAnswer, placeOf}
 use Rattle.refusal.proofs.Numbers.{accepted-of}
-use Rattle.questions.proofs.Answering.{answered-value, answered-refused}
+use Rattle.refusal.proofs.Answers.{answered-value, answered-refused}
 use Rattle.questions.proofs.Questions.{Allowed, allowed, enough, place-is}
 use Rattle.questions.proofs.place_of.Statement.{statement}
 use Rattle.questions.proofs.place_of.Tie as tie
