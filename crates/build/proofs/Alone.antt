@@ -1,13 +1,10 @@
 -- Each way out of a build of the four tables alone answers, and leaves, what the definitions say.
 use mathlib.Core.Path.{_≡_, sym, ap, _∙_}
-use mathlib.Core.Bool.{Bool}
 use mathlib.Core.List.{List}
 use Prim.Native.Nat.{ℕ}
 use native.Mathlib.Omega.{arith}
 use lib.ListN.{length}
-use Rattle.suffix.specs.Ranks.{ranks, greatestRank, oriented}
 use Rattle.suffix.specs.Rows.{Tables, tablesAfter}
-use Rattle.suffix.proofs.Ranks.{oriented-length}
 use Rattle.refusal.specs.declared.Refusal.{Refusal}
 use Rattle.refusal.specs.declared.Verdict.{Verdict}
 use Rattle.refusal.specs.declared.Verdict.the-variants.{Accepted, Refused}
@@ -18,9 +15,10 @@ use Rattle.refusal.proofs.Tables as verdict
 use Rattle.reuse.specs.Steps.{BuildState, afterRows}
 use Rattle.reuse.proofs.Exact.{exact}
 use Rattle.build.specs.declared.State.{State}
-use Rattle.build.specs.States.{clearedFrom, clearedTables, buildState}
+use Rattle.build.specs.States.{clearedTables, buildState}
 use Rattle.build.specs.Built.{tablesRefusalOf, TablesBuilt}
-use Rattle.build.proofs.Clearing.{cleared-none}
+use Rattle.entries.specs.Cleared.{clearedFrom}
+use Rattle.entries.proofs.Clearing.{cleared-none}
 
 abbrev pub Lengths : ℕ → Tables → Type 0
 Lengths n t = Taken n (length (t .previous)) (length (t .next)) (length (t .previousMatch)) (length (t .nextMatch))
@@ -33,26 +31,19 @@ none-left n t S =
     past : (l : List ℕ) (v : ℕ) → length l ≡ n → clearedFrom n v l ≡ l
     past l v e = ap (λ k. clearedFrom k v l) (sym e) ∙ cleared-none v l
 
-module _ (letters : List ℕ) (reverse : Bool) (before : Tables) where
-  pub taken : tablesRefusalOf letters before ≡ 0 → Lengths (length letters) before
-  unfolding tablesRefusalOf
-  taken e = verdict.taken _ _ _ _ _ e
-
+module _ (y : List ℕ) (before : Tables) where
   -- what is left over tables of n entries
-  pub whole : {after : Tables} {verdict : Verdict} → Lengths (length letters) before → TablesBuilt letters reverse before after verdict
-      → after ≡ tablesAfter (oriented reverse (ranks letters)) (length letters)
+  pub whole : {after : Tables} {verdict : Verdict} → Lengths (length y) before → TablesBuilt y before after verdict → after ≡ tablesAfter y (length y)
   unfolding tablesRefusalOf
   whole S B = B .leaves ∙ unless-taken _ _ _ (verdict.none-refused _ _ _ _ _ S)
 
-  pub refused : (k : Refusal) → numberOf k ≡ tablesRefusalOf letters before → TablesBuilt letters reverse before before (Refused k)
+  pub refused : (k : Refusal) → numberOf k ≡ tablesRefusalOf y before → TablesBuilt y before before (Refused k)
   refused k e = record { answers = e; leaves = sym (unless-refused _ _ _ (λ z. omega (arith, positive k))) }
 
-  module _ (e : tablesRefusalOf letters before ≡ 0) (s : State) (after : Tables) (S : Lengths (length letters) after)
-      (i : buildState s (clearedTables (length letters) (length letters) after) ≡ afterRows (oriented reverse (ranks letters)) (length letters)) where
-    tables : after ≡ tablesAfter (oriented reverse (ranks letters)) (length letters)
-    tables =
-        sym (none-left (length letters) after S) ∙ ap (λ (b : BuildState). b .tables) i
-        ∙ exact (oriented reverse (ranks letters)) (length letters) (omega (arith, oriented-length greatestRank reverse (ranks letters))) .tables
+  module _ (n : ℕ) (long : length y ≡ n) (e : tablesRefusalOf y before ≡ 0) (s : State) (after : Tables) (S : Lengths n after)
+      (i : buildState s (clearedTables n n after) ≡ afterRows y n) where
+    tables : after ≡ tablesAfter y (length y)
+    tables = sym (none-left n after S) ∙ ap (λ (b : BuildState). b .tables) i ∙ exact y n (omega arith) .tables ∙ ap (tablesAfter y) (sym long)
 
-    pub built : TablesBuilt letters reverse before after Accepted
+    pub built : TablesBuilt y before after Accepted
     built = record { answers = sym e; leaves = tables ∙ sym (unless-taken _ _ _ e) }

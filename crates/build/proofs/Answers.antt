@@ -10,6 +10,7 @@ use Rattle.suffix.specs.Rows.{tablesAfter, reach}
 use Rattle.suffix.specs.Tree.{treeLength, treeBytes}
 use Rattle.refusal.specs.declared.Refusal.{Refusal}
 use Rattle.refusal.specs.Numbers.{numberOf}
+use Rattle.refusal.specs.Conditions.{buildRefusal}
 use Rattle.refusal.proofs.Numbers.{positive}
 use Rattle.refusal.proofs.Tables.{build-taken}
 use Rattle.reuse.specs.Steps.{BuildState, afterRows, equalComparisons, unequalComparisons}
@@ -22,14 +23,31 @@ use Rattle.build.specs.declared.Built.the-variants.{Finished, Halted, Re
 use Rattle.build.specs.States.{buildState}
 use Rattle.build.specs.Built.{Lent, lentAfter, figuresOf, refusalOf, answer, lentAtExit, BuiltExactly}
 
-module _ (letters : List ℕ) (R : ℕ) (before : Lent) where
-  abbrev n : ℕ
-  n = length letters
+-- what is lent and asked for n letters, where it is not refused
+pub record Accepted (n R : ℕ) (before : Lent) : Type 0 where
+  pub few : n ≤ 1000000
+  pub previous : length (before .tables .previous) ≡ n
+  pub next : length (before .tables .next) ≡ n
+  pub previousMatch : length (before .tables .previousMatch) ≡ n
+  pub nextMatch : length (before .tables .nextMatch) ≡ n
+  pub tree : length (before .tree) ≡ treeLength n
+  pub rows : R ≤ n
 
-  pub refused : (k : Refusal) → numberOf k ≡ refusalOf letters R before → BuiltExactly letters R before before (Refused k)
+pub accepted : (n R : ℕ) (before : Lent) → let t = before .tables in
+    buildRefusal n R (length (t .previous)) (length (t .next)) (length (t .previousMatch)) (length (t .nextMatch)) (length (before .tree)) ≡ 0 → Accepted n R before
+accepted n R before e =
+    let a = build-taken _ _ _ _ _ R (length (before .tree)) e in
+    let u = a .0 in
+    record { few = u .few; previous = u .previous; next = u .next; previousMatch = u .previousMatch; nextMatch = u .nextMatch; tree = a .1; rows = a .2 }
+
+module _ (y : List ℕ) (R : ℕ) (before : Lent) where
+  abbrev n : ℕ
+  n = length y
+
+  pub refused : (k : Refusal) → numberOf k ≡ refusalOf y R before → BuiltExactly y R before before (Refused k)
   unfolding answer lentAtExit
   refused k e =
-      let ne = ne-eqb (refusalOf letters R before) 0 (omega (arith, positive k)) in
+      let ne = ne-eqb (refusalOf y R before) 0 (omega (arith, positive k)) in
       record {
         answers = rw (ne, answer) (ap Rattle.build.specs.Built.refused e);
         leaves = rw (ne, lentAtExit);
@@ -43,16 +61,6 @@ module _ (letters : List ℕ) (R : ℕ) (before : Lent) where
             };
       }
 
-  -- what is lent and asked, where it is not refused
-  pub record Accepted : Type 0 where
-    pub few : n ≤ 1000000
-    pub previous : length (before .tables .previous) ≡ n
-    pub next : length (before .tables .next) ≡ n
-    pub previousMatch : length (before .tables .previousMatch) ≡ n
-    pub nextMatch : length (before .tables .nextMatch) ≡ n
-    pub tree : length (before .tree) ≡ treeLength n
-    pub rows : R ≤ n
-
   -- a report tells the rows that are asked, and the counts and the reach of the state
   pub record Told (s : State) (report : Report) : Type 0 where
     pub rows : report .rows ≡ R
@@ -60,44 +68,41 @@ module _ (letters : List ℕ) (R : ℕ) (before : Lent) where
     pub unequal : report .unequal ≡ s .unequal
     pub reach : report .reach ≡ s .reach
 
-  module _ (taken : refusalOf letters R before ≡ 0) where
-    pub accepted : Accepted
+  module _ (taken : refusalOf y R before ≡ 0) where
+    fits : R ≤ n
     unfolding refusalOf
-    accepted =
-        let a = build-taken _ _ _ _ _ R (length (before .tree)) taken in
-        let u = a .0 in
-        record { few = u .few; previous = u .previous; next = u .next; previousMatch = u .previousMatch; nextMatch = u .nextMatch; tree = a .1; rows = a .2 }
+    fits = accepted n R before taken .rows
 
-    module _ (s : State) (after : Lent) (i : buildState s (after .tables) ≡ afterRows letters R) (q : after .tree ≡ treeBytes letters R)
+    module _ (s : State) (after : Lent) (i : buildState s (after .tables) ≡ afterRows y R) (q : after .tree ≡ treeBytes y R)
         {report : Report} (told : Told s report) where
-      E : Exact letters R
-      E = exact letters R (accepted .rows)
+      E : Exact y R
+      E = exact y R fits
 
-      tables : after .tables ≡ tablesAfter letters R
+      tables : after .tables ≡ tablesAfter y R
       tables = ap (λ (b : BuildState). b .tables) i ∙ E .tables
 
-      equals : report .equal ≡ equalComparisons letters R
+      equals : report .equal ≡ equalComparisons y R
       equals = told .equal ∙ ap (λ (b : BuildState). b .progress .equal) i
 
-      unequals : report .unequal ≡ unequalComparisons letters R
+      unequals : report .unequal ≡ unequalComparisons y R
       unequals = told .unequal ∙ ap (λ (b : BuildState). b .progress .unequal) i
 
-      reached : report .reach ≡ reach letters R
+      reached : report .reach ≡ reach y R
       reached = told .reach ∙ ap (λ (b : BuildState). b .progress .reach) i ∙ E .reached
 
-      exactly : (r : Built) → figuresOf r ≡ answer letters R before → BuiltExactly letters R before after r
+      exactly : (r : Built) → figuresOf r ≡ answer y R before → BuiltExactly y R before after r
       unfolding lentAtExit lentAfter
       exactly r a =
           record {
             answers = a;
-            leaves = rw (eq-eqb (refusalOf letters R before) 0 taken, lentAtExit, ← q, ← tables);
+            leaves = rw (eq-eqb (refusalOf y R before) 0 taken, lentAtExit, ← q, ← tables);
             bounded = record { within = λ z. E .within; equal = λ z. E .equal; unequal = λ z. E .unequal; bound = λ z. E .bound; whole = λ z w h. E .whole h w };
           }
 
-      pub finished : R ≡ n → BuiltExactly letters R before after (Finished report)
+      pub finished : R ≡ n → BuiltExactly y R before after (Finished report)
       unfolding answer
-      finished h = exactly (Finished report) (rw (eq-eqb (refusalOf letters R before) 0 taken, eq-eqb R n h, answer, told .rows, equals, unequals, reached))
+      finished h = exactly (Finished report) (rw (eq-eqb (refusalOf y R before) 0 taken, eq-eqb R n h, answer, told .rows, equals, unequals, reached))
 
-      pub halted : R ≢ n → BuiltExactly letters R before after (Halted report)
+      pub halted : R ≢ n → BuiltExactly y R before after (Halted report)
       unfolding answer
-      halted h = exactly (Halted report) (rw (eq-eqb (refusalOf letters R before) 0 taken, ne-eqb R n h, answer, told .rows, equals, unequals, reached))
+      halted h = exactly (Halted report) (rw (eq-eqb (refusalOf y R before) 0 taken, ne-eqb R n h, answer, told .rows, equals, unequals, reached))

@@ -26,13 +26,19 @@ use Rattle.reuse.proofs.Row.{Sizes, next-sizes, previous-sizes, AtSettled, Done
 use Rattle.reuse.proofs.Exact.{rows-done}
 use Rattle.build.specs.declared.State.{State}
 use Rattle.build.specs.declared.SettledPair as declared
-use Rattle.build.specs.States.{progressOf, pairOf, tablesOf, clearedFrom, clearedTables, buildState, Safe, settledFrom}
-use Rattle.build.proofs.Clearing.{cleared-length, cleared-get, next-recorded, row-recorded, previous-none, all-cleared}
+use Rattle.build.specs.States.{progressOf, pairOf, tablesOf, clearedTables, buildState, Safe, settledFrom}
+use Rattle.entries.specs.Cleared.{clearedFrom}
+use Rattle.entries.proofs.Clearing.{cleared-length, cleared-get}
+use Rattle.build.proofs.Clearing.{next-recorded, row-recorded, previous-none, all-cleared}
 use Rattle.build.proofs.Parts.{replicate-part, part-room, part-raised}
 use Rattle.build.proofs.Settling.{reads-before}
 use Rattle.build.proofs.Walking.{standing, Going, starts, settles, left-ends, none-ends, less-ends, goes-on}
 
 -- The tables hold what the steps recorded in the rows that are done, and anything from there on.
+
+-- the state when a row more is done
+abbrev pub raised : State → State
+raised s = record { reach = s .reach; shift = s .shift; rows = s .rows + 1; equal = s .equal; unequal = s .unequal }
 
 -- at the head of the row loop: the rows are done; of the last one the opening bit is still to be set, the previous entry p to be recorded with
 -- its match v, and the next entry to be left pending
@@ -48,13 +54,15 @@ pub record AtRows (y : List ℕ) (rows : ℕ) (s : State) (t : Tables) (p v : �
   -- the place of that bit
   pub at : bit + level y (s .rows - 1) + 1 ≡ s .rows + s .rows
 
--- at the head of the walk of row r
-pub record AtWalk (y : List ℕ) (rows r : ℕ) (s : State) (t : Tables) (tree : List ℕ) (bit l m : ℕ) (known : Bool) : Type 0 where
+-- at the head of the walk of row r: p is previous[l], with match v
+pub record AtWalk (y : List ℕ) (rows r : ℕ) (s : State) (t : Tables) (tree : List ℕ) (bit p v l m : ℕ) (known : Bool) : Type 0 where
   pub more : r < rows
   pub fits : rows ≤ length y
-  pub rows-are : s .rows ≡ r + 1
+  pub rows-are : s .rows ≡ r
   pub going : Going y r (standing known (progressOf s) (clearedTables (length y) r t) l m)
   pub before : l < r
+  pub entry : p ≡ getD (t .previous) l 0
+  pub entry-match : v ≡ getD (t .previousMatch) l 0
   pub sizes : Sizes y t
   pub written : tree ≡ take (length tree) (treeBytes y r)
   -- the bits of the rows before, and the closings up to l
@@ -116,8 +124,8 @@ module _ {y : List ℕ} {rows : ℕ} {s : State} {t : Tables} {p v : ℕ} {tree 
   place : bit + level y (s .rows - 1) ≡ suc (s .rows - 1 + (s .rows - 1))
   place = omega (arith, A .pos, A .at)
 
-  pub one-more : length y ≤ 1000000 → Fits w64 (s .rows + 1)
-  one-more n = omega (arith, A .most, A .fits)
+  pub row-fits : length y ≤ 1000000 → Fits w64 (s .rows)
+  row-fits n = omega (arith, A .most, A .fits)
 
   abbrev before : List ℕ
   before = treeBytes y (s .rows - 1)
@@ -147,32 +155,33 @@ module _ {y : List ℕ} {rows : ℕ} {s : State} {t : Tables} {p v : ℕ} {tree 
 
 -- ---- the walk
 
-at-walk : (y : List ℕ) (rows r : ℕ) (s : State) (t : Tables) (tree : List ℕ) (bit l m : ℕ) (known : Bool) → r < rows → rows ≤ length y → s .rows ≡ r + 1
-    → Going y r (standing known (progressOf s) (clearedTables (length y) r t) l m) → tree ≡ take (length tree) (treeBytes y r) → bit + level y l ≡ r + r → AtWalk y rows r s t tree bit l m known
-at-walk y rows r s t tree bit l m known h n k G q b = go known (G .holds)
+at-walk : (y : List ℕ) (rows r : ℕ) (s : State) (t : Tables) (tree : List ℕ) (bit p v l m : ℕ) (known : Bool) → r < rows → rows ≤ length y → s .rows ≡ r
+    → Going y r (standing known (progressOf s) (clearedTables (length y) r t) l m) → p ≡ getD (t .previous) l 0 → v ≡ getD (t .previousMatch) l 0
+    → tree ≡ take (length tree) (treeBytes y r) → bit + level y l ≡ r + r → AtWalk y rows r s t tree bit p v l m known
+at-walk y rows r s t tree bit p v l m known h n k G e f q b = go known (G .holds)
   where
-    make : l < r → Sizes y (clearedTables (length y) r t) → AtWalk y rows r s t tree bit l m known
-    make w S = record { more = h; fits = n; rows-are = k; going = G; before = w; sizes = sizes-of y r t S; written = q; at = b }
+    make : l < r → Sizes y (clearedTables (length y) r t) → AtWalk y rows r s t tree bit p v l m known
+    make w S = record { more = h; fits = n; rows-are = k; going = G; before = w; entry = e; entry-match = f; sizes = sizes-of y r t S; written = q; at = b }
 
-    go : (b : Bool) → Holds y r (standing b (progressOf s) (clearedTables (length y) r t) l m) → AtWalk y rows r s t tree bit l m known
+    go : (b : Bool) → Holds y r (standing b (progressOf s) (clearedTables (length y) r t) l m) → AtWalk y rows r s t tree bit p v l m known
     go true (at-settled M) = make (M .edge .before) (M .sizes)
     go false (at-asked A) = make (A .asked .edge .before) (A .sizes)
 
 pub begins : {y : List ℕ} {rows : ℕ} {s : State} {t : Tables} {p v : ℕ} {tree : List ℕ} {bit : ℕ} → AtRows y rows s t p v tree bit → s .rows < rows
     → {t′ : Tables} → t′ ≡ recordNext (recordPrevious t (s .rows - 1) p v) (s .rows - 1) (length y) 0
     → {tree′ : List ℕ} → tree′ ≡ set tree (bit / 8) (getD tree (bit / 8) 0 + 2 ^ (bit % 8))
-    → AtWalk y rows (s .rows) (record { reach = s .reach; shift = s .shift; rows = s .rows + 1; equal = s .equal; unequal = s .unequal }) t′ tree′ (bit + 1) (s .rows - 1) 0 false
+    → AtWalk y rows (s .rows) s t′ tree′ (bit + 1) p v (s .rows - 1) 0 false
+unfolding recordPrevious recordNext
 begins {y} {rows} {s} {t} {p} {v} {tree} {bit} A h {t′} w {tree′} q =
-    at-walk y rows (s .rows) _ t′ tree′ (bit + 1) (s .rows - 1) 0 false h (A .fits) refl
-    (starts y (s .rows) (omega (arith, A .fits)) (buildState s (clearedTables (length y) (s .rows) t′)) (A .pos) (rows-are-done A w (s .rows) refl)) (bit-set A q)
-    (omega (arith, A .at))
+    at-walk y rows (s .rows) _ t′ tree′ (bit + 1) p v (s .rows - 1) 0 false h (A .fits) refl
+    (starts y (s .rows) (omega (arith, A .fits)) (buildState s (clearedTables (length y) (s .rows) t′)) (A .pos) (rows-are-done A w (s .rows) refl))
+    (sym (ap (λ u. getD (u .previous) (s .rows - 1) 0) w ∙ getD-set-same (t .previous) (s .rows - 1) p 0 (omega (arith, last A, A .sizes .previous))))
+    (sym (ap (λ u. getD (u .previousMatch) (s .rows - 1) 0) w ∙ getD-set-same (t .previousMatch) (s .rows - 1) v 0 (omega (arith, last A, A .sizes .previousMatch))))
+    (bit-set A q) (omega (arith, A .at))
 
-module _ {y : List ℕ} {rows r : ℕ} {s : State} {t : Tables} {tree : List ℕ} {bit l m : ℕ} {known : Bool} (W : AtWalk y rows r s t tree bit l m known) where
+module _ {y : List ℕ} {rows r : ℕ} {s : State} {t : Tables} {tree : List ℕ} {bit p v l m : ℕ} {known : Bool} (W : AtWalk y rows r s t tree bit p v l m known) where
   small : r < length y
   small = omega (arith, W .more, W .fits)
-
-  pub l-in : (l < length (t .previous)) × (l < length (t .previousMatch))
-  l-in = (omega (arith, W .before, small, W .sizes .previous), omega (arith, W .before, small, W .sizes .previousMatch))
 
   abbrev seen : Tables
   seen = clearedTables (length y) r t
@@ -205,8 +214,8 @@ module _ {y : List ℕ} {rows r : ℕ} {s : State} {t : Tables} {tree : List ℕ
         go : Holds y r (settled (pairOf u) seen l) → AtSettled y r (pairOf u) seen l
         go (at-settled M) = M
 
-    pub advances : rows - u .state .rows < rows - r
-    advances = omega (arith, W .more, W .rows-are, E .1)
+    pub advances : (k : ℕ) → r ≡ k + 1 → rows - u .state .rows < rows - k
+    advances k e = omega (arith, W .more, W .rows-are, E .1)
 
     pub match-fits : r + u .matched ≤ length y
     match-fits = agree-fits y (W .before) (omega (arith, small)) (M .told .match .same)
@@ -216,24 +225,24 @@ module _ {y : List ℕ} {rows r : ℕ} {s : State} {t : Tables} {tree : List ℕ
 
     -- previous[r] is v with match w: the row is done
     done : (t′ : Tables) (bit′ v w : ℕ) → bit′ + level y v ≡ r + r → v ≤ length y → w ≤ length y → Sizes y t′
-        → buildState (u .state) (recordPrevious (clearedTables (length y) r t′) r v w) ≡ afterRows y (suc r) → AtRows y rows (u .state) t′ v w tree bit′
+        → buildState (u .state) (recordPrevious (clearedTables (length y) r t′) r v w) ≡ afterRows y (suc r) → AtRows y rows (raised (u .state)) t′ v w tree bit′
     unfolding recordPrevious
     done t′ bit′ v w b e f S i =
         let D : Done y (suc r) (buildState (u .state) (recordPrevious (clearedTables (length y) r t′) r v w)) = rw i (rows-done y (suc r) (omega arith) (omega (arith, small))) in
         let p : previous y r ≡ v =
         sym (previousAfter-in y (suc r) r (omega arith)) ∙ sym (D .previous r small)
         ∙ getD-set-same (clearedFrom r (length y) (t′ .previous)) r v 0 (omega (arith, small, cleared-length r (length y) (t′ .previous), S .previous)) in
-        at-rows y rows r (u .state) t′ v w tree bit′ (W .more) (W .fits) (E .1 ∙ W .rows-are) i e f S (W .written)
+        at-rows y rows r (raised (u .state)) t′ v w tree bit′ (W .more) (W .fits) (ap (λ k. k + 1) (E .1 ∙ W .rows-are)) i e f S (W .written)
         (omega (arith, level-is y r small, ap (level y) p))
 
-    pub ends-left : u .«left_smaller» ≡ true → AtRows y rows (u .state) t l (u .matched) tree bit
+    pub ends-left : u .«left_smaller» ≡ true → AtRows y rows (raised (u .state)) t l (u .matched) tree bit
     ends-left b = done t bit l (u .matched) (W .at) (omega (arith, W .before, small)) (omega (arith, match-fits)) (W .sizes) (left-ends y r small G b)
 
-    -- the suffix at r is the smaller: next[l] is recorded in t′, and previous[l] is read
-    module _ (b : u .«left_smaller» ≡ false) {t′ : Tables} (recorded-next : t′ ≡ recordNext t l r (u .matched)) {p : ℕ} (reads : p ≡ getD (t .previous) l 0) where
+    -- the suffix at r is the smaller: next[l] is recorded in t′
+    module _ (b : u .«left_smaller» ≡ false) {t′ : Tables} (recorded-next : t′ ≡ recordNext t l r (u .matched)) where
       -- what is read before r is what is seen, and what is recorded there is seen
       p-seen : getD (seen .previous) l 0 ≡ p
-      p-seen = cleared-get r (length y) l (t .previous) (W .before) ∙ sym reads
+      p-seen = cleared-get r (length y) l (t .previous) (W .before) ∙ sym (W .entry)
 
       t′-seen : recordNext seen l r (u .matched) ≡ clearedTables (length y) r t′
       t′-seen = sym (ap (clearedTables (length y) r) recorded-next ∙ next-recorded (length y) t r l r (u .matched) (W .before))
@@ -249,10 +258,10 @@ module _ {y : List ℕ} {rows r : ℕ} {s : State} {t : Tables} {tree : List ℕ
 
       -- the row ends with p in previous[r]
       ends : (w : ℕ) → p ≤ length y → w ≤ length y → buildState (u .state) (recordPrevious (recordNext seen l r (u .matched)) r p w) ≡ afterRows y (suc r)
-          → AtRows y rows (u .state) t′ p w tree (bit + 1)
+          → AtRows y rows (raised (u .state)) t′ p w tree (bit + 1)
       ends w a f e = done t′ (bit + 1) p w up a f t′-sizes (ap (λ k. buildState (u .state) (recordPrevious k r p w)) (sym t′-seen) ∙ e)
 
-      pub ends-none : p ≡ length y → AtRows y rows (u .state) t′ p 0 tree (bit + 1)
+      pub ends-none : p ≡ length y → AtRows y rows (raised (u .state)) t′ p 0 tree (bit + 1)
       ends-none z =
           ends 0 (omega arith) (omega arith) (ap (λ i. buildState (u .state) (recordPrevious (recordNext seen l r (u .matched)) r i 0)) z ∙ none-ends y r small G b (p-seen ∙ z))
 
@@ -264,17 +273,22 @@ module _ {y : List ℕ} {rows r : ℕ} {s : State} {t : Tables} {tree : List ℕ
             go (inl w) = omega (arith, p-is)
             go (inr w) = absurd (some (p-is ∙ w))
 
-        module _ {v : ℕ} (reads-match : v ≡ getD (t .previousMatch) l 0) where
-          v-seen : getD (seen .previousMatch) l 0 ≡ v
-          v-seen = cleared-get r 0 l (t .previousMatch) (W .before) ∙ sym reads-match
+        -- p is a place of the tables
+        pub p-in : (p < length (t .previous)) × (p < length (t .previousMatch))
+        p-in = (omega (arith, falls, W .before, small, W .sizes .previous), omega (arith, falls, W .before, small, W .sizes .previousMatch))
 
-          pub ends-less : v < u .matched → AtRows y rows (u .state) t′ p v tree (bit + 1)
-          ends-less w =
-              ends v (omega (arith, falls, W .before, small)) (omega (arith, match-fits))
-              (ap₂ (λ i j. buildState (u .state) (recordPrevious (recordNext seen l r (u .matched)) r i j)) (sym p-seen) (sym v-seen)
-              ∙ less-ends y r small G b (λ e. some (sym p-seen ∙ e)) (omega (arith, v-seen)))
+        v-seen : getD (seen .previousMatch) l 0 ≡ v
+        v-seen = cleared-get r 0 l (t .previousMatch) (W .before) ∙ sym (W .entry-match)
 
-          pub goes : u .matched ≤ v → AtWalk y rows r (u .state) t′ tree (bit + 1) p (u .matched) (ltb (u .matched) v)
-          goes w =
-              at-walk y rows r (u .state) t′ tree (bit + 1) p (u .matched) _ (W .more) (W .fits) (E .1 ∙ W .rows-are)
-              (rw (t′-seen, p-seen, v-seen) at (goes-on y r small G b (λ e. some (sym p-seen ∙ e)) (omega (arith, v-seen)))) (W .written) up
+        pub ends-less : v < u .matched → AtRows y rows (raised (u .state)) t′ p v tree (bit + 1)
+        ends-less w =
+            ends v (omega (arith, falls, W .before, small)) (omega (arith, match-fits))
+            (ap₂ (λ i j. buildState (u .state) (recordPrevious (recordNext seen l r (u .matched)) r i j)) (sym p-seen) (sym v-seen)
+            ∙ less-ends y r small G b (λ e. some (sym p-seen ∙ e)) (omega (arith, v-seen)))
+
+        -- previous[p] is read, with its match
+        pub goes : u .matched ≤ v → {i j : ℕ} → i ≡ getD (t′ .previous) p 0 → j ≡ getD (t′ .previousMatch) p 0
+            → AtWalk y rows r (u .state) t′ tree (bit + 1) i j p (u .matched) (ltb (u .matched) v)
+        goes w {i} {j} reads reads-match =
+            at-walk y rows r (u .state) t′ tree (bit + 1) i j p (u .matched) _ (W .more) (W .fits) (E .1 ∙ W .rows-are)
+            (rw (t′-seen, p-seen, v-seen) at (goes-on y r small G b (λ e. some (sym p-seen ∙ e)) (omega (arith, v-seen)))) reads reads-match (W .written) up

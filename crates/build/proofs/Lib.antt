@@ -3,5 +3,6 @@ pub mod Answers
 pub mod Clearing
 pub mod Parts
 pub mod Invariants
+pub mod Strings
 pub mod Settling
 pub mod Walking

@@ -1,5 +1,5 @@
 -- Steps 1 and 2 as the code goes them.
-use mathlib.Core.Path.{_≡_, refl, sym, ap, ap₂, _∙_}
+use mathlib.Core.Path.{_≡_, refl, sym, ap, _∙_}
 use mathlib.Core.Logic.{_≢_}
 use mathlib.Core.Bool.{Bool, true, false}
 use mathlib.Core.List.{List, []}
@@ -10,42 +10,37 @@ use lib.Dec.{ltb}
 use lib.ListN.{length, getD}
 use Rattle.suffix.proofs.Cases.{Tri, lt, eq, gt, tri, Same, same, other, same?}
 use Rattle.suffix.specs.Rows.{Tables}
-use Rattle.reuse.specs.Steps.{Progress, SettledPair, scan, scanFrom, reuse, settle}
-use Rattle.reuse.proofs.Scan.{scan-equal, scan-unequal, stopped}
+use Rattle.reuse.specs.Steps.{Progress, ScanReport, SettledPair, scan, scanFrom, reuse, settle}
+use Rattle.reuse.proofs.Scan.{scan-equal, scan-unequal}
 use Rattle.reuse.proofs.Settle.{settle-scan, settle-by-next, settle-by-previous}
 use Rattle.build.specs.States.{tablesOf, clearedTables, settledFrom}
-use Rattle.build.proofs.Clearing.{cleared-get}
+use Rattle.entries.proofs.Clearing.{cleared-get}
 
 -- two pairs with equal numbers
-pub same-pair : {reach shift equal unequal reach′ shift′ equal′ unequal′ m : ℕ} {b : Bool} → reach ≡ reach′ → shift ≡ shift′ → equal ≡ equal′ → unequal ≡ unequal′
+pub same-pair : {reach shift equal unequal m reach′ shift′ equal′ unequal′ m′ : ℕ} {b : Bool} → reach ≡ reach′ → shift ≡ shift′ → equal ≡ equal′ → unequal ≡ unequal′ → m ≡ m′
     → _≡_ {A = SettledPair} (record { progress = record { reach = reach; shift = shift; equal = equal; unequal = unequal }; match = m; leftSmaller = b })
-    (record { progress = record { reach = reach′; shift = shift′; equal = equal′; unequal = unequal′ }; match = m; leftSmaller = b })
-same-pair p q v w = rw (p, q, v, w)
+    (record { progress = record { reach = reach′; shift = shift′; equal = equal′; unequal = unequal′ }; match = m′; leftSmaller = b })
+same-pair p q v w x = rw (p, q, v, w, x)
 
 -- ---- a scan that stands at m: what is left of it is the whole
 
-module _ (y : List ℕ) (s : Progress) (l r m : ℕ) {whole : SettledPair} (is : whole ≡ scanFrom y s l r m) where
-  pub at-end : {u : SettledPair} → length y ≤ r + m → u ≡ stopped l r m (s .equal) (s .unequal) false → u ≡ whole
-  unfolding scanFrom scan
-  at-end h q = let z : length y - (r + m) ≡ 0 = omega arith in q ∙ sym (is ∙ rw z)
+module _ (y : List ℕ) (l r m equal unequal : ℕ) {whole : ScanReport} (is : whole ≡ scan y l r m (length y - (r + m)) equal unequal) where
+  pub at-end : length y ≤ r + m → {i j : ℕ} → i ≡ equal → j ≡ unequal → record { match = m; leftSmaller = false; equal = i; unequal = j } ≡ whole
+  unfolding scan
+  at-end h p q = let z : length y - (r + m) ≡ 0 = omega arith in rw (p, q) (sym (is ∙ rw z))
 
   module _ (h : r + m < length y) where
     left : length y - (r + m) ≡ suc (length y - (r + (m + 1)))
     left = omega arith
 
     -- the ranks that are compared
-    pub at-equal : {equal : ℕ} (a b : ℕ) → a ≡ getD y (l + m) 0 → b ≡ getD y (r + m) 0 → a ≡ b → equal ≡ s .equal + 1
-        → whole ≡ scanFrom y (record { reach = s .reach; shift = s .shift; equal = equal; unequal = s .unequal }) l r (m + 1)
-    unfolding scanFrom
-    at-equal a b p q e w =
-        is ∙ rw (left, w) (scan-equal y l r m (length y - (r + (m + 1))) (s .equal) (s .unequal) (sym p ∙ e ∙ q) ∙ rw (add-one m, add-one (s .equal)))
+    module _ (a b : ℕ) (p : a ≡ getD y (l + m) 0) (q : b ≡ getD y (r + m) 0) where
+      pub at-equal : a ≡ b → {i : ℕ} → i ≡ equal + 1 → whole ≡ scan y l r (m + 1) (length y - (r + (m + 1))) i unequal
+      at-equal e w = is ∙ rw (left, w) (scan-equal y l r m (length y - (r + (m + 1))) equal unequal (sym p ∙ e ∙ q) ∙ rw (add-one m, add-one equal))
 
-    pub at-unequal : {u : SettledPair} (a b : ℕ) → a ≡ getD y (l + m) 0 → b ≡ getD y (r + m) 0 → a ≢ b
-        → {equal unequal : ℕ} → u ≡ stopped l r m equal unequal (ltb a b) → equal ≡ s .equal → unequal ≡ s .unequal + 1 → u ≡ whole
-    unfolding scanFrom
-    at-unequal a b p q e w v x =
-        w ∙ same-pair refl refl v x ∙ ap₂ (λ i j. stopped l r m (s .equal) (s .unequal + 1) (ltb i j)) p q
-        ∙ sym (is ∙ rw (left, add-one (s .unequal)) (scan-unequal y l r m (length y - (r + (m + 1))) (s .equal) (s .unequal) (λ z. e (p ∙ z ∙ sym q))))
+      pub at-unequal : a ≢ b → {i j : ℕ} → i ≡ equal → j ≡ unequal + 1 → record { match = m; leftSmaller = ltb a b; equal = i; unequal = j } ≡ whole
+      at-unequal e v w =
+          rw (v, w, p, q) (sym (is ∙ rw (left, add-one unequal) (scan-unequal y l r m (length y - (r + (m + 1))) equal unequal (λ z. e (p ∙ z ∙ sym q)))))
 
 -- ---- a pair of which nothing is known: x is next[l - d], and v the match that is recorded
 

@@ -1,11 +1,10 @@
 -- Demand 3: what a build answers, and what it leaves in the memory that is lent to it.
 use mathlib.Core.Path.{_≡_}
-use mathlib.Core.Bool.{Bool, true, false}
+use mathlib.Core.Bool.{true, false}
 use mathlib.Core.List.{List}
 use Prim.Native.Nat.{ℕ, _+_, _-_, _*_, _≤_, _<_}
 use lib.Dec.{eqb}
 use lib.ListN.{length}
-use Rattle.suffix.specs.Ranks.{ranks, oriented}
 use Rattle.suffix.specs.Rows.{Tables, tablesAfter, reach}
 use Rattle.suffix.specs.Tree.{treeBytes}
 use Rattle.refusal.specs.declared.Verdict.{Verdict}
@@ -40,53 +39,52 @@ figuresOf (Finished r) = finished (r .rows) (r .equal) (r .unequal) (r .reach)
 figuresOf (Halted r) = halted (r .rows) (r .equal) (r .unequal) (r .reach)
 figuresOf (Refused k) = refused (numberOf k)
 
--- the refusal of a build of R rows of these letters over this memory, or 0
+-- the refusal of a build of R rows of y over this memory, or 0
 unfoldable pub refusalOf : List ℕ → ℕ → Lent → ℕ
-refusalOf letters R lent =
+refusalOf y R lent =
     let t = lent .tables in
-    buildRefusal (length letters) R (length (t .previous)) (length (t .next)) (length (t .previousMatch)) (length (t .nextMatch)) (length (lent .tree))
+    buildRefusal (length y) R (length (t .previous)) (length (t .next)) (length (t .previousMatch)) (length (t .nextMatch)) (length (lent .tree))
 
 -- "Rows done is always R."
 unfoldable pub answer : List ℕ → ℕ → Lent → Figures
-answer letters R lent =
-    let y = ranks letters in
-    elim (eqb (refusalOf letters R lent) 0) [
+answer y R lent =
+    elim (eqb (refusalOf y R lent) 0) [
       | true ↦
-          elim (eqb R (length letters)) [
+          elim (eqb R (length y)) [
             | true ↦ finished R (equalComparisons y R) (unequalComparisons y R) (reach y R)
             | false ↦ halted R (equalComparisons y R) (unequalComparisons y R) (reach y R)
           ]
-      | false ↦ refused (refusalOf letters R lent)
+      | false ↦ refused (refusalOf y R lent)
     ]
 
 -- the memory at exit: as it was where the build is refused
 unfoldable pub lentAtExit : List ℕ → ℕ → Lent → Lent
-lentAtExit letters R lent = elim (eqb (refusalOf letters R lent) 0) [ true ↦ lentAfter (ranks letters) R | false ↦ lent ]
+lentAtExit y R lent = elim (eqb (refusalOf y R lent) 0) [ true ↦ lentAfter y R | false ↦ lent ]
 
 -- the cost and the reach of a build that is not refused
-pub record Bounded (letters : List ℕ) (R : ℕ) (before : Lent) : Type 0 where
+pub record Bounded (y : List ℕ) (R : ℕ) (before : Lent) : Type 0 where
   -- "Reach never passes n"
-  pub within : refusalOf letters R before ≡ 0 → reach (ranks letters) R ≤ length letters
+  pub within : refusalOf y R before ≡ 0 → reach y R ≤ length y
   -- T-02: "with R ≥ 1 rows done, equal ones are at most reach less one, unequal ones at most twice (R less one)."
-  pub equal : refusalOf letters R before ≡ 0 → 0 < R → equalComparisons (ranks letters) R ≤ reach (ranks letters) R - 1
-  pub unequal : refusalOf letters R before ≡ 0 → 0 < R → unequalComparisons (ranks letters) R ≤ 2 * (R - 1)
+  pub equal : refusalOf y R before ≡ 0 → 0 < R → equalComparisons y R ≤ reach y R - 1
+  pub unequal : refusalOf y R before ≡ 0 → 0 < R → unequalComparisons y R ≤ 2 * (R - 1)
   -- "these comparisons are at most 2 (R - 1) + (reach - 1)"
-  pub bound : refusalOf letters R before ≡ 0 → 0 < R → comparisons (ranks letters) R ≤ 2 * (R - 1) + (reach (ranks letters) R - 1)
+  pub bound : refusalOf y R before ≡ 0 → 0 < R → comparisons y R ≤ 2 * (R - 1) + (reach y R - 1)
   -- "so a whole build takes at most 3 (n - 1)"
-  pub whole : refusalOf letters R before ≡ 0 → R ≡ length letters → 0 < R → comparisons (ranks letters) R ≤ 3 * (length letters - 1)
+  pub whole : refusalOf y R before ≡ 0 → R ≡ length y → 0 < R → comparisons y R ≤ 3 * (length y - 1)
 
--- demand 3, and demand 1 for the build: of one and the same build, whatever the letters, R and the lent memory
-pub record BuiltExactly (letters : List ℕ) (R : ℕ) (before after : Lent) (built : Built) : Type 0 where
-  pub answers : figuresOf built ≡ answer letters R before
-  pub leaves : after ≡ lentAtExit letters R before
-  pub bounded : Bounded letters R before
+-- demand 3, and demand 1 for the build: of one and the same build, whatever the string, R and the lent memory
+pub record BuiltExactly (y : List ℕ) (R : ℕ) (before after : Lent) (built : Built) : Type 0 where
+  pub answers : figuresOf built ≡ answer y R before
+  pub leaves : after ≡ lentAtExit y R before
+  pub bounded : Bounded y R before
 
--- ---- the four tables of all letters alone, in the order of the letters or in its reverse: what T-03 and T-06 of document 02 work with
+-- ---- the four tables alone, of all letters: what T-03 and T-06 of document 02 work with
 
 -- the refusal over these tables, or 0
 unfoldable pub tablesRefusalOf : List ℕ → Tables → ℕ
-tablesRefusalOf letters t = tablesRefusal (length letters) (length (t .previous)) (length (t .next)) (length (t .previousMatch)) (length (t .nextMatch))
+tablesRefusalOf y t = tablesRefusal (length y) (length (t .previous)) (length (t .next)) (length (t .previousMatch)) (length (t .nextMatch))
 
-pub record TablesBuilt (letters : List ℕ) (reverse : Bool) (before after : Tables) (verdict : Verdict) : Type 0 where
-  pub answers : verdictNumber verdict ≡ tablesRefusalOf letters before
-  pub leaves : after ≡ unlessRefused (tablesRefusalOf letters before) (tablesAfter (oriented reverse (ranks letters)) (length letters)) before
+pub record TablesBuilt (y : List ℕ) (before after : Tables) (verdict : Verdict) : Type 0 where
+  pub answers : verdictNumber verdict ≡ tablesRefusalOf y before
+  pub leaves : after ≡ unlessRefused (tablesRefusalOf y before) (tablesAfter y (length y)) before

@@ -1,26 +1,30 @@
 -- What the contracts of the private functions are written with: the code's values as those of the reuse steps.
 use mathlib.Core.Bool.{Bool, true, false}
-use mathlib.Core.List.{List, [], _∷_}
-use Prim.Native.Nat.{ℕ, zero, suc, _+_, _≤_, _<_}
+use mathlib.Core.List.{List}
+use Prim.Native.Nat.{ℕ, _+_, _≤_, _<_}
+use Rattle.suffix.specs.Ranks.{ranks, oriented}
 use Rattle.suffix.specs.Rows.{Tables}
-use Rattle.reuse.specs.Steps.{Progress, BuildState, SettledPair, settle}
+use Rattle.entries.specs.Cleared.{clearedFrom}
+use Rattle.reuse.specs.Steps.{Progress, BuildState, ScanReport, SettledPair, settle}
 use Rattle.build.specs.declared.State.{State}
+use Rattle.build.specs.declared.ScanReport as declaredReport
 use Rattle.build.specs.declared.SettledPair as declared
+
+-- the string that the rows are of: the ranks of the letters, in their order or in its reverse
+abbrev pub stringOf : (reverse : Bool) → List ℕ → List ℕ
+stringOf reverse letters = oriented reverse (ranks letters)
 
 abbrev pub progressOf : State → Progress
 progressOf s = record { reach = s .reach; shift = s .shift; equal = s .equal; unequal = s .unequal }
+
+abbrev pub reportOf : declaredReport.ScanReport → ScanReport
+reportOf u = record { match = u .matched; leftSmaller = u .«left_smaller»; equal = u .equal; unequal = u .unequal }
 
 abbrev pub pairOf : declared.SettledPair → SettledPair
 pairOf u = record { progress = progressOf (u .state); match = u .matched; leftSmaller = u .«left_smaller» }
 
 abbrev pub tablesOf : List ℕ → List ℕ → List ℕ → List ℕ → Tables
 tablesOf previous next previousMatch nextMatch = record { previous = previous; next = next; previousMatch = previousMatch; nextMatch = nextMatch }
-
--- t with v in every place from k on
-unfoldable pub clearedFrom : ℕ → ℕ → List ℕ → List ℕ
-clearedFrom k v [] = []
-clearedFrom zero v (x ∷ t) = v ∷ clearedFrom zero v t
-clearedFrom (suc k) v (x ∷ t) = x ∷ clearedFrom k v t
 
 -- tables for n letters with none and match 0 for every position from k on
 abbrev pub clearedTables : ℕ → ℕ → Tables → Tables

@@ -6,18 +6,28 @@ ghost use Prim.Native.Nat.{_+_, _-_, _/_, _%_, _^_, _≤_, _<_};
 ghost use lib.ListN.{length, getD, set, take, replicate};
 ghost use Rattle.suffix.specs.Ranks.{ranks, oriented};
 ghost use Rattle.suffix.specs.Tree.{treeLength, treeBytes};
-ghost use Rattle.reuse.specs.Steps.{scanFrom, afterRows};
-ghost use Rattle.build.specs.States.{progressOf, pairOf, tablesOf, clearedFrom, clearedTables, buildState, Safe, settledFrom};
+ghost use Rattle.reuse.specs.Steps.{scan as stepScan, scanned, afterRows};
+ghost use Rattle.build.specs.States.{stringOf, progressOf, reportOf, pairOf, tablesOf, clearedTables, buildState, Safe, settledFrom};
 ghost use Rattle.build.specs.Built.{lent, BuiltExactly, TablesBuilt};
+use entries::clear_from;
+use entries::read;
 use refusal::Refusal;
 use refusal::Verdict;
 
-// The state of a build: reach c, shift d, the rows done, the one that is walked included, and the comparisons made that
-// found two letters equal, and unequal.
+// The state of a build: reach c, shift d, the rows that are recorded, and the comparisons made that found two letters equal,
+// and unequal.
 struct State {
     reach: usize,
     shift: usize,
     rows: usize,
+    equal: usize,
+    unequal: usize,
+}
+
+// What a scan reports: the match and the order of its pair, and the comparisons made so far.
+struct ScanReport {
+    matched: usize,
+    left_smaller: bool,
     equal: usize,
     unequal: usize,
 }
@@ -43,24 +53,10 @@ pub enum Built {
     Refused(Refusal),
 }
 
-// An entry as an index.
-fn wide(x: u32) -> usize
-    ensures { λ r. ⌜ (r ≡ x) × (r < 4294967296) ⌝ }
-{
-    x as usize
-}
-
-fn read(table: &[u32], i: usize) -> usize
-    requires { ⌜ i < length (now table) ⌝ }
-    ensures { λ r. ⌜ (r ≡ getD (now (table .entry)) i 0) × (r < 4294967296) ⌝ }
-{
-    wide(table[i])
-}
-
 // The rank of the letter at i, in the order of the letters or in its reverse.
 fn rank_at(letters: &[u8], reverse: bool, i: usize) -> u32
     requires { ⌜ i < length (now letters) ⌝ }
-    ensures { λ r. ⌜ r ≡ getD (oriented reverse (ranks (now (letters .entry)))) i 0 ⌝ }
+    ensures { λ r. ⌜ r ≡ getD (stringOf reverse (now (letters .entry))) i 0 ⌝ }
 {
     let rank = suffix::rank(letters[i]) as u32;
     if reverse {
@@ -78,41 +74,61 @@ fn record_entry(table: &mut [u32], matches: &mut [u32], i: usize, value: usize, 
     matches[i] = m as u32;
 }
 
+// Step 1: compares the letters at l + m and r + m, raising m while they are equal. So many comparisons were made before.
+fn scan(
+    letters: &[u8],
+    reverse: bool,
+    l: usize,
+    r: usize,
+    from: usize,
+    equal: usize,
+    unequal: usize,
+) -> ScanReport
+    requires { ⌜ (l < r) × (r + from ≤ length (now letters)) × (length (now letters) ≤ 1000000) × (equal ≤ 1000000) × (unequal ≤ 2000000) ⌝ }
+    ensures { λ u. ⌜ reportOf u ≡ stepScan (stringOf reverse (now (letters .entry))) l r from (length (stringOf reverse (now (letters .entry))) - (r + from)) equal unequal ⌝ }
+    ensures { λ u. ⌜ r + u .matched ≤ length (now (letters .entry)) ⌝ }
+{
+    let mut m = from;
+    let mut equals = equal;
+    while r + m < letters.len() {
+        let a = rank_at(letters, reverse, l + m);
+        let b = rank_at(letters, reverse, r + m);
+        if a != b {
+            return ScanReport {
+                matched: m,
+                left_smaller: a < b,
+                equal: equals,
+                unequal: unequal + 1,
+            };
+        }
+        equals += 1;
+        m += 1;
+    }
+    // at n, the suffix at r is the smaller
+    ScanReport {
+        matched: m,
+        left_smaller: false,
+        equal: equals,
+        unequal,
+    }
+}
+
 impl State {
-    // The end of a scan of (l, r), which finds the match m.
-    fn stop(mut self, l: usize, r: usize, m: usize, left_smaller: bool) -> SettledPair
-        requires { ⌜ (l < r) × (r + m ≤ 1000000) ⌝ }
-        ensures { λ u. ⌜ pairOf u ≡ record { progress = record { reach = r + m; shift = r - l; equal = self .equal; unequal = self .unequal }; match = m; leftSmaller = «left_smaller» } ⌝ }
+    // What a scan of (l, r) leaves.
+    fn stop(mut self, l: usize, r: usize, report: ScanReport) -> SettledPair
+        requires { ⌜ (l < r) × (r + report .matched ≤ 1000000) ⌝ }
+        ensures { λ u. ⌜ pairOf u ≡ scanned l r (reportOf report) ⌝ }
         ensures { λ u. ⌜ u .state .rows ≡ self .rows ⌝ }
     {
         self.shift = r - l;
-        self.reach = r + m;
+        self.reach = r + report.matched;
+        self.equal = report.equal;
+        self.unequal = report.unequal;
         SettledPair {
             state: self,
-            matched: m,
-            left_smaller,
+            matched: report.matched,
+            left_smaller: report.left_smaller,
         }
-    }
-
-    // Step 1: compares the letters at l + m and r + m, raising m while they are equal.
-    fn scan(mut self, letters: &[u8], reverse: bool, l: usize, r: usize, from: usize) -> SettledPair
-        requires { ⌜ (l < r) × (r + from ≤ length (now letters)) × (length (now letters) ≤ 1000000) × (self .equal ≤ 1000000) × (self .unequal ≤ 2000000) ⌝ }
-        ensures { λ u. ⌜ pairOf u ≡ scanFrom (oriented reverse (ranks (now (letters .entry)))) (progressOf self) l r from ⌝ }
-        ensures { λ u. ⌜ u .state .rows ≡ self .rows ⌝ }
-    {
-        let mut m = from;
-        while r + m < letters.len() {
-            let a = rank_at(letters, reverse, l + m);
-            let b = rank_at(letters, reverse, r + m);
-            if a != b {
-                self.unequal += 1;
-                return self.stop(l, r, m, a < b);
-            }
-            self.equal += 1;
-            m += 1;
-        }
-        // at n, the suffix at r is the smaller
-        self.stop(l, r, m, false)
     }
 
     // Steps 1 and 2: settles (l, r) from m, unless it is known to have match m and the smaller suffix at r: so it is called
@@ -134,7 +150,7 @@ impl State {
         requires { ⌜ (known ≡ false → Safe (length (now letters)) (progressOf self) l r m) ⌝ }
         ensures { λ u.
             ⌜ pairOf u
-            ≡ settledFrom known (oriented reverse (ranks (now (letters .entry)))) (progressOf self)
+            ≡ settledFrom known (stringOf reverse (now (letters .entry))) (progressOf self)
             (tablesOf [] (now (next .entry)) (now («previous_match» .entry)) (now («next_match» .entry)))
             l
             r
@@ -173,7 +189,8 @@ impl State {
             }
             from = self.reach - r;
         }
-        self.scan(letters, reverse, l, r, from)
+        let report = scan(letters, reverse, l, r, from, self.equal, self.unequal);
+        self.stop(l, r, report)
     }
 }
 
@@ -206,8 +223,8 @@ fn build_rows(
     ensures { λ s.
         ⌜ buildState s
         (clearedTables (length (now (letters .entry))) rows (tablesOf (now (previous .exit)) (now (next .exit)) (now («previous_match» .exit)) (now («next_match» .exit))))
-        ≡ afterRows (oriented reverse (ranks (now (letters .entry)))) rows ⌝ }
-    ensures { λ s. ⌜ now (tree .exit) ≡ take (length (now (tree .entry))) (treeBytes (oriented reverse (ranks (now (letters .entry)))) rows) ⌝ }
+        ≡ afterRows (stringOf reverse (now (letters .entry))) rows ⌝ }
+    ensures { λ s. ⌜ now (tree .exit) ≡ take (length (now (tree .entry))) (treeBytes (stringOf reverse (now (letters .entry))) rows) ⌝ }
     ensures { λ s. ⌜ s .rows ≡ rows ⌝ }
 {
     if rows == 0 {
@@ -223,25 +240,25 @@ fn build_rows(
     let mut state = State {
         reach: 1,
         shift: 0,
-        rows: 1,
+        rows: 0,
         equal: 0,
         unequal: 0,
     };
     let mut bit = 0;
-    // previous and its match of the row that is done last, still to be recorded
+    // previous and its match of the row that is done last, still to be recorded; in a walk, those of l
     let mut p = n;
     let mut v = 0usize;
     'rows: loop {
         set_bit(tree, bit);
         bit += 1;
-        let r = state.rows;
+        let r = state.rows + 1;
+        state.rows = r;
         record_entry(previous, previous_match, r - 1, p, v);
         // none until a later row settles it
         record_entry(next, next_match, r - 1, n, 0);
         if rows <= r {
             break 'rows;
         }
-        state.rows = r + 1;
         let mut l = r - 1;
         let mut m = 0;
         let mut known = false;
@@ -266,33 +283,20 @@ fn build_rows(
             }
             record_entry(next, next_match, l, r, m);
             bit += 1;
-            p = read(previous, l);
             if p == n {
                 v = 0;
                 break 'walk;
             }
-            v = read(previous_match, l);
             if v < m {
                 break 'walk;
             }
             known = m < v;
             l = p;
+            p = read(previous, l);
+            v = read(previous_match, l);
         }
     }
     state
-}
-
-// The value in every place from one on.
-fn clear_from(table: &mut [u32], from: usize, value: usize)
-    requires { ⌜ (from ≤ length (now table)) × (value ≤ 1000000) ⌝ }
-    ensures { λ _. ⌜ now (table .exit) ≡ clearedFrom from value (now (table .entry)) ⌝ }
-{
-    let entry = value as u32;
-    let mut i = from;
-    while i < table.len() {
-        table[i] = entry;
-        i += 1;
-    }
 }
 
 // None and match 0 for the positions of which the row is not done.
@@ -337,7 +341,7 @@ pub fn build(
     tree: &mut [u8],
 ) -> Built
     ensures { λ r.
-        ⌜ BuiltExactly (now (letters .entry)) rows
+        ⌜ BuiltExactly (ranks (now (letters .entry))) rows
         (lent (now (previous .entry)) (now (next .entry)) (now («previous_match» .entry)) (now («next_match» .entry)) (now (tree .entry)))
         (lent (now (previous .exit)) (now (next .exit)) (now («previous_match» .exit)) (now («next_match» .exit)) (now (tree .exit)))
         r ⌝ }
@@ -389,7 +393,7 @@ pub fn build_tables(
     next_match: &mut [u32],
 ) -> Verdict
     ensures { λ r.
-        ⌜ TablesBuilt (now (letters .entry)) reverse
+        ⌜ TablesBuilt (oriented reverse (ranks (now (letters .entry))))
         (tablesOf (now (previous .entry)) (now (next .entry)) (now («previous_match» .entry)) (now («next_match» .entry)))
         (tablesOf (now (previous .exit)) (now (next .exit)) (now («previous_match» .exit)) (now («next_match» .exit)))
         r ⌝ }

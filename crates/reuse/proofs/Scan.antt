@@ -9,17 +9,10 @@ use lib.Dec.{ltb}
 use lib.ListN.{length, getD}
 use borrow.Author.Tests.{eq-eqb, ne-eqb, ltb-true, ltb-false}
 use Rattle.suffix.proofs.Cases.{Same, same, other, same?}
-use Rattle.suffix.proofs.Sequence.{Agree, Less, Match, agree-sym}
+use Rattle.suffix.proofs.Sequence.{Agree, Less, Match, agree-sym, agree-more}
 use Rattle.suffix.proofs.Order.{extended, extended-in, extended-out}
-use Rattle.reuse.specs.Steps.{Progress, SettledPair, scan, scanFrom}
+use Rattle.reuse.specs.Steps.{ScanReport, scan}
 use Rattle.reuse.proofs.Examples
-
-agree-more : (f : ℕ → ℕ) {i j m : ℕ} → Agree f i j m → f (i + m) ≡ f (j + m) → Agree f i j (suc m)
-agree-more f {i} {j} {m} a e = record { on = λ k h. go k h (same? k m) }
-  where
-    go : (k : ℕ) → k < suc m → Same k m → f (i + k) ≡ f (j + k)
-    go k h (same q) = rw q e
-    go k h (other q) = a .on k (omega arith)
 
 -- a match m and an order b are those of the suffixes at l and r
 pub record Told (y : List ℕ) (l r : ℕ) (m : ℕ) (b : Bool) : Type 0 where
@@ -27,19 +20,13 @@ pub record Told (y : List ℕ) (l r : ℕ) (m : ℕ) (b : Bool) : Type 0 where
   pub left : b ≡ true → Less (extended y) l r
   pub right : b ≡ false → Less (extended y) r l
 
--- what a scan of (l, r) from m gives, where so many comparisons found the letters equal before, and so many unequal
-pub record Scanned (y : List ℕ) (l r m equal unequal : ℕ) (u : SettledPair) : Type 0 where
+-- what a scan of (l, r) from m reports, where so many comparisons found the letters equal before, and so many unequal
+pub record Reported (y : List ℕ) (l r m equal unequal : ℕ) (u : ScanReport) : Type 0 where
   pub told : Told y l r (u .match) (u .leftSmaller)
-  pub reach : u .progress .reach ≡ r + u .match
-  pub shift : u .progress .shift ≡ r - l
   pub more : m ≤ u .match
   -- one comparison for each letter that is equal, and at most one that is not
-  pub equal-grows : u .progress .equal + m ≡ equal + u .match
-  pub unequal-grows : u .progress .unequal ≤ suc unequal
-
--- a scan that stops at m, with these counts and this order
-abbrev pub stopped : ℕ → ℕ → ℕ → ℕ → ℕ → Bool → SettledPair
-stopped l r m equal unequal b = record { progress = record { reach = r + m; shift = r - l; equal = equal; unequal = unequal }; match = m; leftSmaller = b }
+  pub equal-grows : u .equal + m ≡ equal + u .match
+  pub unequal-grows : u .unequal ≤ suc unequal
 
 -- the clauses of the scan
 module _ (y : List ℕ) (l r m k equal unequal : ℕ) where
@@ -48,12 +35,12 @@ module _ (y : List ℕ) (l r m k equal unequal : ℕ) where
   scan-equal e = rw (eq-eqb _ _ e, scan)
 
   pub scan-unequal : getD y (l + m) 0 ≢ getD y (r + m) 0
-      → scan y l r m (suc k) equal unequal ≡ stopped l r m equal (suc unequal) (ltb (getD y (l + m) 0) (getD y (r + m) 0))
+      → scan y l r m (suc k) equal unequal ≡ record { match = m; leftSmaller = ltb (getD y (l + m) 0) (getD y (r + m) 0); equal = equal; unequal = suc unequal }
   unfolding scan
   scan-unequal e = rw (ne-eqb _ _ e, scan)
 
-scan-told : (y : List ℕ) (l r m k equal unequal : ℕ) → l < r → r + m + k ≡ length y → Agree (extended y) l r m
-    → Scanned y l r m equal unequal (scan y l r m k equal unequal)
+pub scan-told : (y : List ℕ) (l r m k equal unequal : ℕ) → l < r → r + m + k ≡ length y → Agree (extended y) l r m
+    → Reported y l r m equal unequal (scan y l r m k equal unequal)
 unfolding scan
 scan-told y l r m zero equal unequal h n a =
     let u : extended y (r + m) ≡ 0 = extended-out y (r + m) (omega arith) in
@@ -65,8 +52,6 @@ scan-told y l r m zero equal unequal h n a =
             left = λ e. absurd (false≢true e);
             right = λ e. record { at = m; same = agree-sym (extended y) a; less = omega arith };
           };
-      reach = refl;
-      shift = refl;
       more = omega arith;
       equal-grows = refl;
       unequal-grows = omega arith;
@@ -80,12 +65,12 @@ scan-told y l r m (suc k) equal unequal h n a =
     er : extended y (r + m) ≡ suc (getD y (r + m) 0)
     er = extended-in y (r + m) (omega arith)
 
-    wider : {u : SettledPair} → Scanned y l r (suc m) (suc equal) unequal u → Scanned y l r m equal unequal u
-    wider w = record { told = w .told; reach = w .reach; shift = w .shift; more = omega arith; equal-grows = omega arith; unequal-grows = w .unequal-grows }
+    wider : {u : ScanReport} → Reported y l r (suc m) (suc equal) unequal u → Reported y l r m equal unequal u
+    wider w = record { told = w .told; more = omega arith; equal-grows = omega arith; unequal-grows = w .unequal-grows }
 
     go : Same (getD y (l + m) 0) (getD y (r + m) 0)
-        → (r + suc m + k ≡ length y → Agree (extended y) l r (suc m) → Scanned y l r (suc m) (suc equal) unequal (scan y l r (suc m) k (suc equal) unequal))
-        → Scanned y l r m equal unequal (scan y l r m (suc k) equal unequal)
+        → (r + suc m + k ≡ length y → Agree (extended y) l r (suc m) → Reported y l r (suc m) (suc equal) unequal (scan y l r (suc m) k (suc equal) unequal))
+        → Reported y l r m equal unequal (scan y l r m (suc k) equal unequal)
     go (same e) ih = rw (scan-equal y l r m k equal unequal e) (wider (ih (omega arith) (agree-more (extended y) a (el ∙ ap suc e ∙ sym er))))
     go (other e) ih =
         rw (scan-unequal y l r m k equal unequal e)
@@ -96,14 +81,7 @@ scan-told y l r m (suc k) equal unequal h n a =
                 left = λ q. record { at = m; same = a; less = omega (arith, el, er, ltb-true (getD y (l + m) 0) (getD y (r + m) 0) q) };
                 right = λ q. record { at = m; same = agree-sym (extended y) a; less = omega (arith, el, er, ltb-false (getD y (l + m) 0) (getD y (r + m) 0) q) };
               };
-          reach = refl;
-          shift = refl;
           more = omega arith;
           equal-grows = refl;
           unequal-grows = omega arith;
         })
-
-pub scan-from : (y : List ℕ) (s : Progress) (l r m : ℕ) → l < r → r + m ≤ length y → Agree (extended y) l r m
-    → Scanned y l r m (s .equal) (s .unequal) (scanFrom y s l r m)
-unfolding scanFrom
-scan-from y s l r m h n a = scan-told y l r m (length y - (r + m)) (s .equal) (s .unequal) h (omega arith) a

@@ -16,9 +16,9 @@ use Rattle.suffix.proofs.Edges.{Edge, no-cross, edge-prev, edge-next}
 use Rattle.suffix.proofs.Order.{extended, lce-match, agree-fits}
 use Rattle.suffix.proofs.Nearest.{previous-is, next-is, next-at}
 use Rattle.suffix.proofs.Rows.{previousAfter-in, previousMatchAfter-in, previousMatch-some, nextAfter-in, nextAfter-out, nextMatchAfter-in, nextMatch-some}
-use Rattle.reuse.specs.Steps.{Progress, SettledPair, scanFrom, reuse, settle}
+use Rattle.reuse.specs.Steps.{Progress, ScanReport, SettledPair, scan, scanned as scannedPair, scanFrom, reuse, settle}
 use Rattle.reuse.proofs.Windows.{Window, match-back, match-to-end, less-back, edge-shift}
-use Rattle.reuse.proofs.Scan.{Told, Scanned, scan-from}
+use Rattle.reuse.proofs.Scan.{Told, Reported, scan-told}
 
 -- ---- the clauses of the steps
 
@@ -158,27 +158,30 @@ inside y c d r l m P e h B = go (P .place)
 
 module _ (y : List ℕ) (s : Progress) (l r : ℕ) (small : r < length y) (e : Edge (extended y) l r) where
   from-scan : (m : ℕ) → s .reach ≤ r + m → Agree (extended y) l r m → Settled y s l r (scanFrom y s l r m)
-  from-scan m h a = done (scan-from y s l r m (e .before) (agree-fits y (e .before) (omega arith) a) a)
+  unfolding scanFrom
+  from-scan m h a =
+      let f : r + m ≤ length y = agree-fits y (e .before) (omega arith) a in
+      done (scan-told y l r m (length y - (r + m)) (s .equal) (s .unequal) (e .before) (omega arith) a)
     where
-      done : {u : SettledPair} → Scanned y l r m (s .equal) (s .unequal) u → Settled y s l r u
+      done : {u : ScanReport} → Reported y l r m (s .equal) (s .unequal) u → Settled y s l r (scannedPair l r u)
       done {u} S =
-          let z : r - u .progress .shift ≡ l = omega (arith, S .shift, e .before) in
-          let x : u .progress .reach - r ≡ u .match = omega (arith, S .reach) in
+          let z : r - (r - l) ≡ l = omega (arith, e .before) in
+          let x : r + u .match - r ≡ u .match = omega arith in
           record {
             told = S .told;
-            covers = omega (arith, S .reach);
-            grows = omega (arith, S .reach, S .more);
+            covers = omega arith;
+            grows = omega (arith, S .more);
             last =
                 scanned
                 (record {
                   at = r;
-                  low = omega (arith, S .shift);
-                  high = omega (arith, S .reach);
+                  low = omega arith;
+                  high = omega arith;
                   edge = rw z e;
                   match = rw (z, x) (S .told .match);
                   place = inr (refl, omega arith);
                 });
-            equal-grows = omega (arith, S .equal-grows, S .reach);
+            equal-grows = omega (arith, S .equal-grows);
             unequal-grows = S .unequal-grows;
           }
 

@@ -25,26 +25,36 @@ pub record SettledPair : Type 0 where
   pub match : ℕ
   pub leftSmaller : Bool
 
+-- what a scan reports: the match and the order of its pair, and the comparisons made so far
+pub record ScanReport : Type 0 where
+  pub match : ℕ
+  pub leftSmaller : Bool
+  pub equal : ℕ
+  pub unequal : ℕ
+
 -- Step 1, with k letters left from r + m on, and so many comparisons made before that found the letters equal, and unequal: "compare
--- y[l + m] with y[r + m], raising m by 1 while equal, and stop at the first unequal letters or when r + m = n. Then c = r + m and
--- d = r − l, also where c didn't grow. At n, the suffix at r is the smaller." "A comparison looks at two letters and tells less, equal
--- or greater; it counts 1.": the order at the first unequal letters is that comparison's.
-unfoldable pub scan : List ℕ → ℕ → ℕ → ℕ → ℕ → ℕ → ℕ → SettledPair
-scan y l r m zero equal unequal =
-    record { progress = record { reach = r + m; shift = r - l; equal = equal; unequal = unequal }; match = m; leftSmaller = false }
+-- y[l + m] with y[r + m], raising m by 1 while equal, and stop at the first unequal letters or when r + m = n. .. At n, the suffix at r
+-- is the smaller." "A comparison looks at two letters and tells less, equal or greater; it counts 1.": the order at the first unequal
+-- letters is that comparison's.
+unfoldable pub scan : List ℕ → ℕ → ℕ → ℕ → ℕ → ℕ → ℕ → ScanReport
+scan y l r m zero equal unequal = record { match = m; leftSmaller = false; equal = equal; unequal = unequal }
 scan y l r m (suc k) equal unequal =
     elim (eqb (getD y (l + m) 0) (getD y (r + m) 0)) [
       | true ↦ scan y l r (suc m) k (suc equal) unequal
-      | false ↦
-          record {
-            progress = record { reach = r + m; shift = r - l; equal = equal; unequal = suc unequal };
-            match = m;
-            leftSmaller = ltb (getD y (l + m) 0) (getD y (r + m) 0);
-          }
+      | false ↦ record { match = m; leftSmaller = ltb (getD y (l + m) 0) (getD y (r + m) 0); equal = equal; unequal = suc unequal }
     ]
 
+-- what a scan of (l, r) leaves: "Then c = r + m and d = r − l, also where c didn't grow."
+abbrev pub scanned : ℕ → ℕ → ScanReport → SettledPair
+scanned l r u =
+    record {
+      progress = record { reach = r + u .match; shift = r - l; equal = u .equal; unequal = u .unequal };
+      match = u .match;
+      leftSmaller = u .leftSmaller;
+    }
+
 unfoldable pub scanFrom : List ℕ → Progress → ℕ → ℕ → ℕ → SettledPair
-scanFrom y s l r m = scan y l r m (length y - (r + m)) (s .equal) (s .unequal)
+scanFrom y s l r m = scanned l r (scan y l r m (length y - (r + m)) (s .equal) (s .unequal))
 
 -- Step 2, the recorded pair having match v and order b: "If r + v < c, m becomes v and the order is that of the recorded pair, with
 -- no comparison. If r + v ≥ c, set m = c − r and scan as in step 1."

@@ -5,7 +5,15 @@ use mathlib.Core.List.{List, [], _∷_}
 use Prim.Native.Nat.{ℕ, zero, suc, _-_, _<_}
 use native.Mathlib.Omega.{arith}
 use lib.ListN.{length, getD, length-map}
-use Rattle.suffix.specs.Ranks.{orientedFrom}
+use Rattle.suffix.specs.Ranks.{rank, ranks, orientedFrom}
+
+pub ranks-length : (letters : List ℕ) → length (ranks letters) ≡ length letters
+ranks-length letters = length-map letters rank
+
+pub ranks-entry : (letters : List ℕ) (i : ℕ) → i < length letters → getD (ranks letters) i 0 ≡ rank (getD letters i 0)
+ranks-entry [] i h = absurd (omega arith)
+ranks-entry (x ∷ letters) zero h = refl
+ranks-entry (x ∷ letters) (suc i) h = ranks-entry letters i (omega arith)
 
 pub oriented-length : (top : ℕ) (reverse : Bool) (y : List ℕ) → length (orientedFrom top reverse y) ≡ length y
 oriented-length top false y = refl

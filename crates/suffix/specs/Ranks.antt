@@ -8,9 +8,9 @@ abbrev pub rank : ℕ → ℕ
 rank letter = letter
 
 -- The ranks of letters. Every definition is over such a list, never over bytes, so that it serves letters of one byte, masked letters and
--- 32-bit symbols alike: y is the ranks of the letters, n is length y. The ranks of bytes are the bytes.
+-- 32-bit symbols alike: y is the ranks of the letters, n is length y.
 abbrev pub ranks : List ℕ → List ℕ
-ranks letters = letters
+ranks letters = map rank letters
 
 -- Document 02, T-03: "under the byte order and under its reverse". In the reverse order ranks are counted down from one that none is above:
 -- the greater one is the smaller, equal ones stay equal, and the end stays smaller than any letter.

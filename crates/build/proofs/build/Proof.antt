@@ -1,14 +1,21 @@
 -- `build::build` meets its contract: each way out is a law of proofs/Answers.antt.
 use mathlib.Core.Path.{_≡_, sym, ap, _∙_}
+use mathlib.Core.Bool.{false}
+use mathlib.Core.List.{List}
+use Prim.Native.Nat.{ℕ}
 use native.Mathlib.Omega.{arith}
 use lib.ListN.{length, replicate, length-replicate}
 use borrow.Author.Needs.{needs}
-use Rattle.suffix.specs.Tree.{treeBytes}
+use Rattle.suffix.specs.Ranks.{ranks}
+use Rattle.suffix.specs.Tree.{treeLength, treeBytes}
+use Rattle.suffix.proofs.Ranks.{ranks-length}
 use Rattle.suffix.proofs.Bytes.{bytes-length}
 use Rattle.refusal.specs.Numbers.{verdictNumber}
+use Rattle.refusal.specs.Conditions.{buildRefusal}
 use Rattle.reuse.specs.Steps.{afterRows}
 use Rattle.build.specs.States.{buildState}
 use Rattle.build.specs.Built.{Lent, lent, refusalOf}
+use Rattle.build.proofs.Strings.{refusal-is}
 use Rattle.build.proofs.Answers.{Accepted}
 use Rattle.build.proofs.Answers as answers
 use Rattle.build.proofs.Parts.{part-whole}
@@ -23,12 +30,21 @@ before s = let g = s .args in lent (g .previous .now) (g .next .now) (g .previou
 abbrev start : tie.After-enum-told → tie.Start
 start m = m .before .before .before .before .before .before .before .before .before
 
-taken : (m : tie.After-enum-told) → let s = start m in refusalOf (s .args .letters .now) (s .args .rows) (before s) ≡ 0
-unfolding refusalOf
-taken m = sym (m .before .before .build-verdict .ensures) ∙ ap verdictNumber (m .enum-told .given .1)
+abbrev y : tie.Start → List ℕ
+y s = ranks (s .args .letters .now)
 
-accepted : (m : tie.After-enum-told) → let s = start m in Accepted (s .args .letters .now) (s .args .rows) (before s)
-accepted m = answers.accepted _ _ _ (taken m)
+same : (s : tie.Start) → length (y s) ≡ length (s .args .letters .now)
+same s = ranks-length (s .args .letters .now)
+
+none-refused : (m : tie.After-enum-told) → let s = start m in let t = before s .tables in
+    buildRefusal (length (s .args .letters .now)) (s .args .rows) (length (t .previous)) (length (t .next)) (length (t .previousMatch)) (length (t .nextMatch)) (length (before s .tree)) ≡ 0
+none-refused m = sym (m .before .before .build-verdict .ensures) ∙ ap verdictNumber (m .enum-told .given .1)
+
+taken : (m : tie.After-enum-told) → let s = start m in refusalOf (y s) (s .args .rows) (before s) ≡ 0
+taken m = let s = start m in sym (refusal-is false (s .args .letters .now) (s .args .rows) (before s)) ∙ none-refused m
+
+accepted : (m : tie.After-enum-told) → let s = start m in Accepted (length (s .args .letters .now)) (s .args .rows) (before s)
+accepted m = answers.accepted _ _ _ (none-refused m)
 
 abbrev told : tie.After-build-rows → tie.After-enum-told
 told d = d .before .before .before .before .before .before .before .before .before .before
@@ -44,8 +60,10 @@ abbrev after : tie.After-clear-tables → Lent
 after t = let u = t .clear-tables .last .1 .1 in lent (u .0) (u .1 .0) (u .1 .1 .0) (u .1 .1 .1 .0) (built t .build-rows .last .1 .1 .1 .1 .1 .1 .1 .0)
 
 returns : tie.Need-returns
-unfolding refusalOf
-returns c = answers.refused _ _ _ _ (sym (ap verdictNumber (c .before .verdict .given .1)) ∙ c .before .before .before .build-verdict .ensures)
+returns c =
+    let s = c .before .before .before .before .before .before .before .before .before .before in
+    answers.refused (y s) (s .args .rows) (before s) _
+    (sym (ap verdictNumber (c .before .verdict .given .1)) ∙ c .before .before .before .build-verdict .ensures ∙ refusal-is false (s .args .letters .now) (s .args .rows) (before s))
 
 -- the tree is cleared, and keeps its length
 cleared-long : (k : tie.After-clear-tree) → length (k .clear-tree .last .0) ≡ length (start (k .before .before) .args .tree .now)
@@ -90,16 +108,16 @@ module _ (k : tie.After-slice-known15) where
   same-tree = left cleared .before .tree2 .given ∙ built cleared .before .before .before .before .before .before .before .tree .given
 
 -- the tree is lent whole
-tree-is : (t : tie.After-clear-tables) → let s = start (told (built t)) in after t .tree ≡ treeBytes (s .args .letters .now) (s .args .rows)
+tree-is : (t : tie.After-clear-tables) → let s = start (told (built t)) in after t .tree ≡ treeBytes (y s) (s .args .rows)
 tree-is t =
     let d = built t in
     let k = d .before .before .before .before .before .before .before .before in
     let s = start (told d) in
-    part-whole (length (k .clear-tree .last .0)) (treeBytes (s .args .letters .now) (s .args .rows)) (d .build-rows .ensures .1 .0)
-    (cleared-long k ∙ accepted (told d) .tree ∙ sym (bytes-length (s .args .letters .now) (s .args .rows)))
+    part-whole (length (k .clear-tree .last .0)) (treeBytes (y s) (s .args .rows)) (d .build-rows .ensures .1 .0)
+    (cleared-long k ∙ accepted (told d) .tree ∙ ap treeLength (sym (same s)) ∙ sym (bytes-length (y s) (s .args .rows)))
 
 -- all rows, and none from there on
-exact : (t : tie.After-clear-tables) → let s = start (told (built t)) in buildState (built t .build-rows .result) (after t .tables) ≡ afterRows (s .args .letters .now) (s .args .rows)
+exact : (t : tie.After-clear-tables) → let s = start (told (built t)) in buildState (built t .build-rows .result) (after t .tables) ≡ afterRows (y s) (s .args .rows)
 exact t = ap (buildState (built t .build-rows .result)) (t .clear-tables .ensures) ∙ built t .build-rows .ensures .0
 
 returns-2 : tie.Need-returns-2
@@ -107,14 +125,14 @@ returns-2 c =
     let t = c .before .before .before .before .before .before .before .before .before in
     let e = built t .build-rows .ensures in
     answers.finished _ _ _ (taken (told (built t))) (built t .build-rows .result) (after t) (exact t) (tree-is t)
-    (record { rows = omega (arith, e .1 .1); equal = omega arith; unequal = omega arith; reach = omega arith }) (c .if1 .taken)
+    (record { rows = omega (arith, e .1 .1); equal = omega arith; unequal = omega arith; reach = omega arith }) (c .if1 .taken ∙ sym (same (start (told (built t)))))
 
 returns-3 : tie.Need-returns-3
 returns-3 c =
     let t = c .before .before .before .before .before .before .before .before .before in
     let e = built t .build-rows .ensures in
     answers.halted _ _ _ (taken (told (built t))) (built t .build-rows .result) (after t) (exact t) (tree-is t)
-    (record { rows = omega (arith, e .1 .1); equal = omega arith; unequal = omega arith; reach = omega arith }) (c .if1 .left)
+    (record { rows = omega (arith, e .1 .1); equal = omega arith; unequal = omega arith; reach = omega arith }) (λ e. c .if1 .left (e ∙ same (start (told (built t)))))
 
 pub build-spec : {M : Type 1} → statement M
 build-spec =

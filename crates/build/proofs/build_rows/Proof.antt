@@ -2,39 +2,38 @@
 use mathlib.Core.Path.{_≡_, refl, sym, ap, _∙_}
 use mathlib.Core.Logic.{_≢_}
 use mathlib.Core.List.{List}
-use Prim.Native.Nat.{ℕ, _-_, _≤_, _<_}
+use Prim.Native.Nat.{ℕ, _+_, _-_, _≤_, _<_}
 use native.Mathlib.Omega.{arith}
 use lib.ListN.{length, take}
-use Rattle.suffix.specs.Ranks.{ranks, greatestRank, oriented}
 use Rattle.suffix.specs.Tree.{treeLength, treeBytes}
-use Rattle.suffix.proofs.Ranks.{oriented-length}
 use Rattle.suffix.proofs.Rows.{tables-are}
 use Rattle.reuse.specs.Steps.{recordPrevious, recordNext}
 use Rattle.reuse.proofs.Row.{Sizes}
-use Rattle.build.specs.States.{tablesOf}
-use Rattle.build.proofs.Invariants.{AtRows, AtWalk}
+use Rattle.build.specs.States.{stringOf, tablesOf}
+use Rattle.build.proofs.Strings.{string-length}
+use Rattle.build.proofs.Invariants.{raised, AtRows, AtWalk}
 use Rattle.build.proofs.Invariants as law
 use Rattle.build.proofs.build_rows.Statement.{statement}
 use Rattle.build.proofs.build_rows.Tie as tie
 
 abbrev Inv-walk : tie.InvT-walk
-Inv-walk letters reverse rows previous next₀ previous-match next-match₀ tree n state₀ bit₀ r l₀ m₀ known₀ next next-match state bit l m known =
-    AtWalk (oriented reverse (ranks letters)) rows r state (tablesOf previous next previous-match next-match) tree bit l m known
+Inv-walk letters reverse rows previous next₀ previous-match next-match₀ tree n state₀ bit₀ p₀ v₀ r l₀ m₀ known₀ next next-match state bit p v l m known =
+    AtWalk (stringOf reverse letters) rows r state (tablesOf previous next previous-match next-match) tree bit p v l m known
 
 abbrev μ-walk : tie.MeasureT-walk
-μ-walk letters reverse rows previous next₀ previous-match next-match₀ tree n state₀ bit₀ r l₀ m₀ known₀ next next-match state bit l m known = l
+μ-walk letters reverse rows previous next₀ previous-match next-match₀ tree n state₀ bit₀ p₀ v₀ r l₀ m₀ known₀ next next-match state bit p v l m known = l
 
 abbrev Inv-rows : tie.InvT-rows
 Inv-rows letters reverse rows previous₀ next₀ previous-match₀ next-match₀ tree₀ n state₀ bit₀ p₀ v₀ previous next previous-match next-match tree state bit p v =
-    AtRows (oriented reverse (ranks letters)) rows state (tablesOf previous next previous-match next-match) p v tree bit × (length tree ≡ length tree₀)
+    AtRows (stringOf reverse letters) rows (raised state) (tablesOf previous next previous-match next-match) p v tree bit × (length tree ≡ length tree₀)
 
 abbrev μ-rows : tie.MeasureT-rows
 μ-rows letters reverse rows previous₀ next₀ previous-match₀ next-match₀ tree₀ n state₀ bit₀ p₀ v₀ previous next previous-match next-match tree state bit p v = rows - state .rows
 
 -- ---- the way back: next[l] is recorded, the suffix at r is the smaller, the pair is settled, the head of the walk, the row is recorded, the head of the rows
 
-abbrev recorded : tie.After-read Inv-walk μ-walk Inv-rows μ-rows → tie.After-record-entry3 Inv-walk μ-walk Inv-rows μ-rows
-recorded p = p .before .before .before .before .before .before
+abbrev recorded : tie.Else4 Inv-walk μ-walk Inv-rows μ-rows → tie.After-record-entry3 Inv-walk μ-walk Inv-rows μ-rows
+recorded e = e .before .before .before .before .before
 
 abbrev right : tie.After-record-entry3 Inv-walk μ-walk Inv-rows μ-rows → tie.Else3 Inv-walk μ-walk Inv-rows μ-rows
 right i = i .before .before .before
@@ -52,7 +51,7 @@ abbrev row : tie.After-record-entry2 Inv-walk μ-walk Inv-rows μ-rows → tie.A
 row p = p .before .before .before .before .before .before .before
 
 abbrev bit-set : tie.After-record-entry Inv-walk μ-walk Inv-rows μ-rows → tie.After-set-bit Inv-walk μ-walk Inv-rows μ-rows
-bit-set e = e .before .before .before .before .before
+bit-set e = e .before .before .before .before .before .before
 
 abbrev rows-head : tie.After-record-entry Inv-walk μ-walk Inv-rows μ-rows → tie.At-rows Inv-walk μ-walk Inv-rows μ-rows
 rows-head e = bit-set e .before .before
@@ -65,10 +64,10 @@ start a = rows-start (rows-head (row (pended a)))
 
 -- the ranks, as many as the letters
 abbrev y : tie.Start Inv-walk μ-walk Inv-rows μ-rows → List ℕ
-y s = oriented (s .args .reverse) (s .args .letters .now)
+y s = stringOf (s .args .reverse) (s .args .letters .now)
 
 same : (s : tie.Start Inv-walk μ-walk Inv-rows μ-rows) → length (y s) ≡ length (s .args .letters .now)
-same s = oriented-length greatestRank (s .args .reverse) (s .args .letters .now)
+same s = string-length (s .args .reverse) (s .args .letters .now)
 
 few : (s : tie.Start Inv-walk μ-walk Inv-rows μ-rows) → length (y s) ≤ 1000000
 few s = omega (arith, same s, s .pre .0 .0)
@@ -100,7 +99,7 @@ set-bit-requires c κs = law.byte-room (c .before .rows .inv .0)
 
 record-entry-requires : tie.Need-record-entry-requires Inv-walk μ-walk Inv-rows μ-rows
 record-entry-requires c κs =
-    let h = c .before .before .before .before .before .before in
+    let h = c .before .before .before .before .before .before .before in
     let A = h .rows .inv .0 in
     let p = few (rows-start h) in
     (omega (arith, A .pos, A .most, A .fits, A .sizes .previous), omega (arith, A .pos, A .most, A .fits, A .sizes .previousMatch), omega (arith, A .entry-fits, p), omega (arith, A .match-fits, p))
@@ -115,7 +114,7 @@ record-entry-requires-2 c κs =
 -- the entries of the row are recorded
 row-recorded : (e : tie.After-record-entry2 Inv-walk μ-walk Inv-rows μ-rows) → let h = rows-head (row e) .rows in
     tablesOf (row e .record-entry .last .0) (e .record-entry2 .last .0) (row e .record-entry .last .1 .0) (e .record-entry2 .last .1 .0)
-    ≡ recordNext (recordPrevious (tablesOf (h .previous) (h .next) (h .previous-match) (h .next-match)) (h .state .rows - 1) (h .p) (h .v)) (h .state .rows - 1)
+    ≡ recordNext (recordPrevious (tablesOf (h .previous) (h .next) (h .previous-match) (h .next-match)) (h .state .rows + 1 - 1) (h .p) (h .v)) (h .state .rows + 1 - 1)
     (length (y (rows-start (rows-head (row e))))) 0
 unfolding recordPrevious recordNext
 row-recorded e =
@@ -139,11 +138,11 @@ record-entry-requires-3 c κs = let S = settled (c .before .before) in law.next-
 
 advances : (S : tie.After-settle Inv-walk μ-walk Inv-rows μ-rows) → let a = head S in
     rows-start (rows-head (row (pended a))) .args .rows - S .settle .result .state .rows < rows-start (rows-head (row (pended a))) .args .rows - rows-head (row (pended a)) .rows .state .rows
-advances S = law.advances (head S .walk .inv) (S .settle .result) (S .settle .ensures)
+advances S = law.advances (head S .walk .inv) (S .settle .result) (S .settle .ensures) _ refl
 
 -- the tree keeps its length
 tree-long : (e : tie.After-record-entry Inv-walk μ-walk Inv-rows μ-rows) → length (bit-set e .set-bit .last .0) ≡ length (rows-start (rows-head e) .args .tree .now)
-tree-long e = e .before .before .before .before .tree .given ∙ rows-head e .rows .inv .1
+tree-long e = e .before .before .before .before .before .tree .given ∙ rows-head e .rows .inv .1
 
 tree-stays : (a : tie.At-walk Inv-walk μ-walk Inv-rows μ-rows) → length (bit-set (row (pended a)) .set-bit .last .0) ≡ length (start a .args .tree .now)
 tree-stays a = tree-long (row (pended a))
@@ -155,43 +154,46 @@ rows-again c = let S = c .before .before in (law.ends-left (head S .walk .inv) (
 next-recorded : (i : tie.After-record-entry3 Inv-walk μ-walk Inv-rows μ-rows) → let S = settled (right i) in let a = head S in
     tablesOf (row (pended a) .record-entry .last .0) (i .record-entry3 .last .0) (row (pended a) .record-entry .last .1 .0) (i .record-entry3 .last .1 .0)
     ≡ recordNext (tablesOf (row (pended a) .record-entry .last .0) (a .walk .next) (row (pended a) .record-entry .last .1 .0) (a .walk .next-match)) (a .walk .l)
-    (rows-head (row (pended a)) .rows .state .rows) (S .settle .result .matched)
+    (rows-head (row (pended a)) .rows .state .rows + 1) (S .settle .result .matched)
 unfolding recordNext
 next-recorded i = tables-are refl (i .record-entry3 .ensures .0) refl (i .record-entry3 .ensures .1)
 
 rows-again-2 : tie.Need-rows-again-2 Inv-walk μ-walk Inv-rows μ-rows
 rows-again-2 c =
-    let i = recorded (c .before) in
+    let i = c .before .before .before .before .before in
     let S = settled (right i) in
-    (law.ends-none (head S .walk .inv) (S .settle .result) (S .settle .ensures) (right i .if3 .left) (next-recorded i) (c .before .read .ensures .0) (c .if4 .taken ∙ sym (same (start (head S)))), tree-stays (head S))
+    (law.ends-none (head S .walk .inv) (S .settle .result) (S .settle .ensures) (right i .if3 .left) (next-recorded i) (c .if4 .taken ∙ sym (same (start (head S)))), tree-stays (head S))
 
 -- previous[l] is not none
-some : (e : tie.Else4 Inv-walk μ-walk Inv-rows μ-rows) → e .before .read .result ≢ length (y (start (head (settled (right (recorded (e .before)))))))
-some e q = e .if4 .left (q ∙ same (start (head (settled (right (recorded (e .before)))))))
+module _ (e : tie.Else4 Inv-walk μ-walk Inv-rows μ-rows) where
+  abbrev S : tie.After-settle Inv-walk μ-walk Inv-rows μ-rows
+  S = settled (right (recorded e))
 
-falls : (e : tie.Else4 Inv-walk μ-walk Inv-rows μ-rows) → e .before .read .result < head (settled (right (recorded (e .before)))) .walk .l
-falls e =
-    let i = recorded (e .before) in
-    let S = settled (right i) in
-    law.falls (head S .walk .inv) (S .settle .result) (S .settle .ensures) (right i .if3 .left) (next-recorded i) (e .before .read .ensures .0) (some e)
+  abbrev a : tie.At-walk Inv-walk μ-walk Inv-rows μ-rows
+  a = head S
+
+  some : a .walk .p ≢ length (y (start a))
+  some q = e .if4 .left (q ∙ same (start a))
+
+  falls : a .walk .p < a .walk .l
+  falls = law.falls (a .walk .inv) (S .settle .result) (S .settle .ensures) (right (recorded e) .if3 .left) (next-recorded (recorded e)) some
+
+  p-in : (a .walk .p < length (row (pended a) .record-entry .last .0)) × (a .walk .p < length (row (pended a) .record-entry .last .1 .0))
+  p-in = law.p-in (a .walk .inv) (S .settle .result) (S .settle .ensures) (right (recorded e) .if3 .left) (next-recorded (recorded e)) some
 
 rows-again-3 : tie.Need-rows-again-3 Inv-walk μ-walk Inv-rows μ-rows
 rows-again-3 c =
-    let e = c .before .before .before in
-    let i = recorded (e .before) in
-    let S = settled (right i) in (
-      law.ends-less (head S .walk .inv) (S .settle .result) (S .settle .ensures) (right i .if3 .left) (next-recorded i) (e .before .read .ensures .0) (some e) (c .before .read2 .ensures .0)
-          (c .if5 .taken),
-      tree-stays (head S),
+    let e = c .before in (
+      law.ends-less (a e .walk .inv) (S e .settle .result) (S e .settle .ensures) (right (recorded e) .if3 .left) (next-recorded (recorded e)) (some e) (c .if5 .taken),
+      tree-stays (a e),
     )
 
 walk-again : tie.Need-walk-again Inv-walk μ-walk Inv-rows μ-rows
 walk-again c =
-    let e = c .before .before .before in
-    let i = recorded (e .before) in
-    let S = settled (right i) in
-    law.goes (head S .walk .inv) (S .settle .result) (S .settle .ensures) (right i .if3 .left) (next-recorded i) (e .before .read .ensures .0) (some e) (c .before .read2 .ensures .0)
-    (c .if5 .left)
+    let f = c .before .before in
+    let e = f .before .before .before in
+    law.goes (a e .walk .inv) (S e .settle .result) (S e .settle .ensures) (right (recorded e) .if3 .left) (next-recorded (recorded e)) (some e) (f .before .before .if5 .left)
+    (f .read .ensures .0) (c .read2 .ensures .0)
 
 -- where all rows are done: its entries and the tree's bit are written
 module _ (c : tie.Then2 Inv-walk μ-walk Inv-rows μ-rows) where
@@ -204,8 +206,8 @@ module _ (c : tie.Then2 Inv-walk μ-walk Inv-rows μ-rows) where
   abbrev s : tie.Start Inv-walk μ-walk Inv-rows μ-rows
   s = rows-start h
 
-  written : bit-set (row e) .set-bit .last .0 ≡ take (length (s .args .tree .now)) (treeBytes (y s) (h .rows .state .rows))
-  written = law.bit-set (h .rows .inv .0) (bit-set (row e) .set-bit .ensures) ∙ ap (λ k. take k (treeBytes (y s) (h .rows .state .rows))) (tree-long (row e))
+  written : bit-set (row e) .set-bit .last .0 ≡ take (length (s .args .tree .now)) (treeBytes (y s) (h .rows .state .rows + 1))
+  written = law.bit-set (h .rows .inv .0) (bit-set (row e) .set-bit .ensures) ∙ ap (λ k. take k (treeBytes (y s) (h .rows .state .rows + 1))) (tree-long (row e))
 
   lengths : Sizes (y s) (tablesOf (row e .record-entry .last .0) (e .record-entry2 .last .0) (row e .record-entry .last .1 .0) (e .record-entry2 .last .1 .0))
   lengths = law.recorded-sizes (h .rows .inv .0) (row-recorded e)
@@ -213,7 +215,7 @@ module _ (c : tie.Then2 Inv-walk μ-walk Inv-rows μ-rows) where
 returns-2 : tie.Need-returns-2 Inv-walk μ-walk Inv-rows μ-rows
 returns-2 c =
     let A = h c .rows .inv .0 in
-    let z : h c .rows .state .rows ≡ s c .args .rows = omega (arith, A .most, c .if2 .taken) in
+    let z : h c .rows .state .rows + 1 ≡ s c .args .rows = omega (arith, A .most, c .if2 .taken) in
     (rw (sym (same (s c))) (law.rows-are-done A (row-recorded (e c)) _ z), (written c ∙ ap (λ k. take (length (s c .args .tree .now)) (treeBytes (y (s c)) k)) z, z))
 
 pub build-rows-spec : {M : Type 1} → statement M
@@ -228,11 +230,11 @@ build-rows-spec =
     rows-holds
     set-bit-requires
     (λ c. omega arith)
-    (λ c. c .before .before .before .before .before .before .rows .inv .0 .pos)
+    (λ c. let h = c .before .before .before .before .before in law.row-fits (h .rows .inv .0) (few (rows-start h)))
+    (λ c. c .before .before .before .before .before .before .before .rows .inv .0 .pos)
     record-entry-requires
     (λ c. rows-head (c .before .before .before .before .before .before) .rows .inv .0 .pos)
     record-entry-requires-2
-    (λ c. let h = rows-head (row (c .before .before .before .before .before)) in law.one-more (h .rows .inv .0) (few (rows-start h)))
     (λ c. rows-head (row (c .before .before .before .before .before)) .rows .inv .0 .pos)
     walk-holds
     settle-requires
@@ -240,13 +242,13 @@ build-rows-spec =
     rows-again
     record-entry-requires-3
     (λ c. let a = head (settled (right (c .before .before .before .before))) in omega (arith, a .walk .inv, few (start a)))
-    (λ c κs. law.l-in (head (settled (right (c .before .before .before .before .before))) .walk .inv) .0)
-    (λ c. advances (settled (right (recorded (c .before)))))
+    (λ c. advances (settled (right (c .before .before .before .before .before))))
     rows-again-2
-    (λ c κs. law.l-in (head (settled (right (recorded (c .before .before)))) .walk .inv) .1)
-    (λ c. advances (settled (right (recorded (c .before .before .before .before)))))
+    (λ c. advances (S (c .before)))
     rows-again-3
-    (λ c. falls (c .before .before .before))
+    (λ c κs. p-in (c .before .before) .0)
+    (λ c κs. p-in (c .before .before .before .before) .1)
+    (λ c. falls (c .before .before .before .before .before))
     walk-again
     (λ c. lengths c .previous ∙ same (s c) ∙ sym (s c .pre .1 .0 .0))
     (λ c. lengths c .next ∙ same (s c) ∙ sym (s c .pre .1 .0 .1))

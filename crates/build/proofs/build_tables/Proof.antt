@@ -1,12 +1,16 @@
 -- `build::build_tables` meets its contract: each way out is a law of proofs/Alone.antt.
 use mathlib.Core.Path.{_≡_, refl, sym, ap, _∙_}
+use mathlib.Core.List.{List}
+use Prim.Native.Nat.{ℕ}
 use native.Mathlib.Omega.{arith}
 use borrow.Author.Needs.{needs}
 use lib.ListN.{length}
 use Rattle.suffix.specs.Rows.{Tables}
 use Rattle.refusal.specs.Numbers.{verdictNumber}
-use Rattle.build.specs.States.{tablesOf}
-use Rattle.build.specs.Built.{tablesRefusalOf}
+use Rattle.refusal.specs.Conditions.{tablesRefusal}
+use Rattle.refusal.proofs.Tables as verdict
+use Rattle.build.specs.States.{stringOf, tablesOf}
+use Rattle.build.proofs.Strings.{string-length, tables-refusal-is}
 use Rattle.build.proofs.Alone as alone
 use Rattle.build.proofs.build_tables.Statement.{statement}
 use Rattle.build.proofs.build_tables.Tie as tie
@@ -19,16 +23,21 @@ before s = let g = s .args in tablesOf (g .previous .now) (g .next .now) (g .pre
 abbrev start : tie.After-enum-told → tie.Start
 start m = m .before .before .before .before .before .before .before .before
 
-taken : (m : tie.After-enum-told) → let s = start m in tablesRefusalOf (s .args .letters .now) (before s) ≡ 0
-unfolding tablesRefusalOf
-taken m = sym (m .before .before .tables-verdict .ensures) ∙ ap verdictNumber (m .enum-told .given .1)
+abbrev y : tie.Start → List ℕ
+y s = stringOf (s .args .reverse) (s .args .letters .now)
+
+accepted : (m : tie.After-enum-told) → let t = before (start m) in
+    tablesRefusal (length (start m .args .letters .now)) (length (t .previous)) (length (t .next)) (length (t .previousMatch)) (length (t .nextMatch)) ≡ 0
+accepted m = sym (m .before .before .tables-verdict .ensures) ∙ ap verdictNumber (m .enum-told .given .1)
 
 lengths : (m : tie.After-enum-told) → let s = start m in alone.Lengths (length (s .args .letters .now)) (before s)
-lengths m = let s = start m in alone.taken (s .args .letters .now) (s .args .reverse) (before s) (taken m)
+lengths m = verdict.taken _ _ _ _ _ (accepted m)
 
 returns : tie.Need-returns
-unfolding tablesRefusalOf
-returns c = alone.refused _ _ _ (c .before .verdict .given .0 .0) (sym (ap verdictNumber (c .before .verdict .given .1)) ∙ c .before .before .before .tables-verdict .ensures)
+returns c =
+    let s = c .before .before .before .before .before .before .before .before .before in
+    alone.refused (y s) (before s) (c .before .verdict .given .0 .0)
+    (sym (ap verdictNumber (c .before .verdict .given .1)) ∙ c .before .before .before .tables-verdict .ensures ∙ tables-refusal-is (s .args .reverse) (s .args .letters .now) (before s))
 
 build-rows-requires : tie.Need-build-rows-requires
 build-rows-requires c κs =
@@ -46,7 +55,8 @@ returns-2 c =
     let m = d .before .before .before .before .before .before in
     let s = start m in
     let a = lengths m in
-    alone.built (s .args .letters .now) (s .args .reverse) (before s) (taken m) (d .build-rows .result) (after d)
+    alone.built (y s) (before s) (length (s .args .letters .now)) (string-length (s .args .reverse) (s .args .letters .now))
+    (sym (tables-refusal-is (s .args .reverse) (s .args .letters .now) (before s)) ∙ accepted m) (d .build-rows .result) (after d)
     (record {
       few = a .few;
       previous = k .before .before .before .before .before .before .previous .given ∙ a .previous;

@@ -3,7 +3,7 @@ use mathlib.Core.Path.{_∙_}
 use native.Mathlib.Omega.{arith}
 use borrow.Author.Needs.{needs}
 use Rattle.suffix.proofs.Rows.{tables-are}
-use Rattle.build.proofs.Clearing.{cleared-alike}
+use Rattle.entries.proofs.Clearing.{cleared-alike}
 use Rattle.build.proofs.clear_tables.Statement.{statement}
 use Rattle.build.proofs.clear_tables.Tie as tie
 

@@ -3,7 +3,7 @@ use mathlib.Core.Path.{_∙_}
 use Prim.Native.Nat.{_-_}
 use native.Mathlib.Omega.{arith}
 use lib.ListN.{length}
-use Rattle.build.proofs.Clearing.{Clears, clears-none, clears-more, clears-all, cleared-all}
+use Rattle.entries.proofs.Clearing.{Clears, clears-none, clears-more, clears-all, cleared-all}
 use Rattle.build.proofs.clear_tree.Statement.{statement}
 use Rattle.build.proofs.clear_tree.Tie as tie
 

@@ -1,14 +1,13 @@
 -- `build::State::settle` meets its contract: each way out is a clause of steps 1 and 2.
-use mathlib.Core.Path.{_≡_, refl, sym, _∙_}
+use mathlib.Core.Path.{_≡_, refl, sym, ap, _∙_}
 use mathlib.Core.Logic.{⊎-elim}
 use mathlib.Core.List.{[]}
 use Prim.Native.Nat.{ℕ, _+_, _≤_}
 use native.Mathlib.Omega.{arith}
 use lib.ListN.{length}
-use Rattle.suffix.specs.Ranks.{ranks, oriented}
-use Rattle.reuse.specs.Steps.{scanFrom}
+use Rattle.reuse.specs.Steps.{scanned, scanFrom}
 use Rattle.reuse.proofs.Settle.{reuse-copy, reuse-scan}
-use Rattle.build.specs.States.{progressOf, tablesOf, Safe, settledFrom}
+use Rattle.build.specs.States.{stringOf, progressOf, tablesOf, Safe, settledFrom}
 use Rattle.build.proofs.Settling.{scans, by-next, by-previous}
 use Rattle.build.proofs.State.settle.Statement.{statement}
 use Rattle.build.proofs.State.settle.Tie as tie
@@ -28,8 +27,8 @@ record From (e : tie.Else1) (k : ℕ) : Type 0 where
   fits : let g = start e .args in g .r + k ≤ length (g .letters .now)
   is :
       let g = start e .args in
-      settledFrom (g .known) (oriented (g .reverse) (ranks (g .letters .now))) (progressOf (g .self)) (tablesOf [] (g .next .now) (g .previous-match .now) (g .next-match .now)) (g .l) (g .r) (g .m)
-      ≡ scanFrom (oriented (g .reverse) (ranks (g .letters .now))) (progressOf (g .self)) (g .l) (g .r) k
+      settledFrom (g .known) (stringOf (g .reverse) (g .letters .now)) (progressOf (g .self)) (tablesOf [] (g .next .now) (g .previous-match .now) (g .next-match .now)) (g .l) (g .r) (g .m)
+      ≡ scanFrom (stringOf (g .reverse) (g .letters .now)) (progressOf (g .self)) (g .l) (g .r) k
 
 from-is : (c : tie.Joined2) → From (c .before .before) (c .if2 .from)
 from-is c =
@@ -69,7 +68,10 @@ returns-3 c =
     )
 
 returns-4 : tie.Need-returns-4
-returns-4 c = (c .scan .ensures .0 ∙ sym (from-is (c .before) .is), c .scan .ensures .1)
+unfolding scanFrom
+returns-4 c =
+    let g = start (c .before .before .before .before) .args in
+    (c .stop .ensures .0 ∙ ap (scanned (g .l) (g .r)) (c .before .scan .ensures .0) ∙ sym (from-is (c .before .before) .is), c .stop .ensures .1)
 
 pub settle-spec : {M : Type 1} → statement M
 settle-spec =
@@ -87,4 +89,5 @@ settle-spec =
     returns-3
     (λ c. omega arith)
     (λ c κs. let s = safe (c .before .before) in (s .before, from-is c .fits, omega arith, omega arith, omega arith))
+    (λ c κs. let s = safe (c .before .before .before) in (s .before, omega arith))
     returns-4)

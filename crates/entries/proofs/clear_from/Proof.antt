@@ -1,10 +1,10 @@
--- `build::clear_from` meets its contract.
+-- `entries::clear_from` meets its contract.
 use Prim.Native.Nat.{_-_}
 use native.Mathlib.Omega.{arith}
 use lib.ListN.{length}
-use Rattle.build.proofs.Clearing.{Clears, clears-none, clears-more, clears-all}
-use Rattle.build.proofs.clear_from.Statement.{statement}
-use Rattle.build.proofs.clear_from.Tie as tie
+use Rattle.entries.proofs.Clearing.{Clears, clears-none, clears-more, clears-all}
+use Rattle.entries.proofs.clear_from.Statement.{statement}
+use Rattle.entries.proofs.clear_from.Tie as tie
 
 abbrev Inv-loop : tie.InvT-loop
 Inv-loop table₀ from value entry i₀ table i = Clears from i value table₀ table

@@ -1,0 +1,68 @@
+-- `build::scan` meets its contract. The invariant: what is left of the scan is the whole.
+use mathlib.Core.Path.{_≡_, refl}
+use Prim.Native.Nat.{_+_, _-_, _≤_, _<_}
+use native.Mathlib.Omega.{arith}
+use lib.ListN.{length}
+use Rattle.reuse.specs.Steps.{scan}
+use Rattle.build.specs.States.{stringOf}
+use Rattle.build.proofs.Strings.{string-length}
+use Rattle.build.proofs.Settling.{at-end, at-equal, at-unequal}
+use Rattle.build.proofs.scan.Statement.{statement}
+use Rattle.build.proofs.scan.Tie as tie
+
+abbrev Inv-loop : tie.InvT-loop
+Inv-loop letters reverse l r from equal unequal m₀ equals₀ m equals =
+    let y = stringOf reverse letters in
+    (r + m ≤ length letters) × (equals + from ≡ equal + m) × (scan y l r from (length y - (r + from)) equal unequal ≡ scan y l r m (length y - (r + m)) equals unequal)
+
+abbrev μ-loop : tie.MeasureT-loop
+μ-loop letters reverse l r from equal unequal m₀ equals₀ m equals = length letters - (r + m)
+
+-- both ranks are read
+module _ (d : tie.After-rank-at2 Inv-loop μ-loop) where
+  abbrev left-rank : tie.After-rank-at Inv-loop μ-loop
+  left-rank = d .before
+
+  abbrev inside : tie.In-loop Inv-loop μ-loop
+  inside = left-rank .before
+
+  more : let g = inside .before .before .before .args in g .r + inside .before .loop .m < length (stringOf (g .reverse) (g .letters .now))
+  more = let g = inside .before .before .before .args in omega (arith, string-length (g .reverse) (g .letters .now), inside .loop-test .taken)
+
+returns : tie.Need-returns Inv-loop μ-loop
+returns c =
+    let d = c .before in
+    let i = inside d .before .loop .inv in
+    (at-unequal _ _ _ _ _ _ (i .2) (more d) _ _ (left-rank d .rank-at .ensures) (d .rank-at2 .ensures) (c .if1 .taken) (omega arith) (omega arith), omega arith)
+
+loop-again : tie.Need-loop-again Inv-loop μ-loop
+loop-again c =
+    let d = c .before in
+    let i = inside d .before .loop .inv in
+    (omega arith, omega arith, at-equal _ _ _ _ _ _ (i .2) (more d) _ _ (left-rank d .rank-at .ensures) (d .rank-at2 .ensures) (c .if1 .left) (omega arith))
+
+returns-2 : tie.Need-returns-2 Inv-loop μ-loop
+returns-2 c =
+    let i = c .before .loop .inv in
+    let g = c .before .before .before .args in
+    (at-end _ _ _ _ _ _ (i .2) (omega (arith, string-length (g .reverse) (g .letters .now), c .loop-test .left)) (omega arith) (omega arith), omega arith)
+
+pub scan-spec : {M : Type 1} → statement M
+scan-spec =
+    tie.close
+    (tie.spec
+    Inv-loop
+    μ-loop
+    (λ c. (omega arith, refl, refl))
+    (λ c. omega arith)
+    (λ c. omega arith)
+    (λ c κs. omega arith)
+    (λ c. omega arith)
+    (λ c κs. omega arith)
+    (λ c. omega arith)
+    returns
+    (λ c. omega arith)
+    (λ c. omega arith)
+    (λ c. omega arith)
+    loop-again
+    returns-2)
