@@ -54,7 +54,7 @@ pub enum Built {
 }
 
 // The rank of the letter at i, in the order of the letters or in its reverse.
-fn rank_at(letters: &[u8], reverse: bool, i: usize) -> u32
+pub fn rank_at(letters: &[u8], reverse: bool, i: usize) -> u32
     requires { ⌜ i < length (now letters) ⌝ }
     ensures { λ r. ⌜ r ≡ getD (stringOf reverse (now (letters .entry))) i 0 ⌝ }
 {

@@ -1,6 +1,6 @@
 -- The refusals, test by test.
 use mathlib.Core.Path.{_≡_, refl, sym, ap, _∙_}
-use mathlib.Core.Logic.{_≢_, inl, inr}
+use mathlib.Core.Logic.{_≢_, _⊎_, inl, inr}
 use mathlib.Core.Bool.{Bool, true, false, not, _||_, or-false}
 use mathlib.Core.List.{List, [], _∷_, _++_, map}
 use Prim.Native.Nat.{ℕ, _≤_, _<_}
@@ -8,18 +8,20 @@ use native.Mathlib.Omega.{arith}
 use lib.Dec.{eqb}
 use lib.ListN.{length}
 use borrow.Author.Tests.{lt-ltb, le-ltb, ltb-false, eq-eqb, ne-eqb, eqb-true, not-false}
-use Rattle.suffix.specs.Ranks.{ranks}
 use Rattle.refusal.specs.declared.Refusal.{Refusal}
 use Rattle.refusal.specs.declared.Refusal.the-variants.{TooLong, TableLength, ListLengths, TooManyRuns}
-use Rattle.refusal.specs.Numbers.{numberOf, numberIf, firstOf}
+use Rattle.refusal.specs.declared.Answer.{Answer}
+use Rattle.refusal.specs.declared.Answer.the-variants.{NoValue}
+use Rattle.refusal.specs.Answers.{answered}
+use Rattle.refusal.specs.Numbers.{numberOf, numberIf, firstOf, unlessRefused}
 use Rattle.refusal.specs.Conditions.{tooLong}
-use Rattle.refusal.proofs.Numbers.{positive, neither, unless-taken, unless-refused}
+use Rattle.refusal.proofs.Numbers.{positive, neither}
+use Rattle.refusal.proofs.Answers.{answered-refused}
 use Rattle.repeats.specs.Runs.{Run, runs}
 use Rattle.repeats.specs.Refusals.{Lists, workLengthOff, listLengthsDiffer, tooManyRuns, lengthsRefusal, runsRefusal}
 use Rattle.repeats.specs.Answers.{answer, listsOf, listsAfter, zeros}
 use Rattle.repeats.proofs.Laws.{refusalsLeave}
-use Rattle.refusal.specs.Answers.{value, refused}
-use Rattle.refusal.specs.declared.Answer.the-variants.{Value, NoValue}
+use Rattle.runs.specs.States.{roomRefusal, Written}
 use Rattle.runs.specs.Reported.{Reported}
 
 -- ---- 2
@@ -97,58 +99,52 @@ module _ (n : ℕ) (work : List ℕ) (starts ends periods : ℕ) where
       unfolding lengthsRefusal
       says-none e q = first-none (tooLong n) (workLengthOff n work) differ (le-ltb 1000000 n h) w (rw (eq-eqb ends starts e, eq-eqb periods starts q))
 
--- ---- the three ways out
+-- ---- the two ways out
 
 module _ (y : List ℕ) (work : List (List ℕ)) (lists : Lists) where
   abbrev size : ℕ
   size = length (lists .starts)
 
+  abbrev number : ℕ
+  number = runsRefusal y work lists
+
   abbrev by-lengths : ℕ
   by-lengths = lengthsRefusal (length y) (map length work) size (length (lists .ends)) (length (lists .periods))
+
+  abbrev differ-in-length : Bool
+  differ-in-length = listLengthsDiffer size (length (lists .ends)) (length (lists .periods))
 
   pub refused-by-lengths : (k : Refusal) → numberOf k ≡ by-lengths → Reported y work lists work lists (NoValue k)
   unfolding lengthsRefusal runsRefusal answer
   refused-by-lengths k e =
-      let L =
-      lengths-first (tooLong (length y)) (workLengthOff (length y) (map length work)) (listLengthsDiffer size (length (lists .ends)) (length (lists .periods))) (tooManyRuns y size)
-      (λ z. omega (arith, positive k, e, z)) in
-      let q : numberOf k ≡ runsRefusal y work lists = e ∙ sym (L .0) in
-      let ne : runsRefusal y work lists ≢ 0 = (λ z. omega (arith, positive k, q, z)) in
+      let L = lengths-first (tooLong (length y)) (workLengthOff (length y) (map length work)) differ-in-length (tooManyRuns y size) (λ z. omega (arith, positive k, e, z)) in
+      let q : numberOf k ≡ number = e ∙ sym (L .0) in
+      let ne : number ≢ 0 = (λ z. omega (arith, positive k, q, z)) in
       let R = refusalsLeave y work lists in
-      record {
-        answers = ap refused q ∙ sym (unless-refused (runsRefusal y work lists) _ _ ne);
-        leaves-lists = sym (R .same-lists ne);
-        leaves-work = sym (R .same-work ne (λ z. L .1 (sym e ∙ q ∙ z)));
-      }
+      record { answers = answered-refused number (length (runs y)) k q; leaves-lists = sym (R .same-lists ne); leaves-work = sym (R .same-work ne (λ z. L .1 (sym e ∙ q ∙ z))) }
 
+  -- where lengths refuse nothing: the runs are written or are too many, and the work tables are cleared
   module _ (taken : by-lengths ≡ 0) where
-    abbrev d : Bool
-    d = tooManyRuns y size
-
-    then-thirteen : runsRefusal y work lists ≡ numberIf d TooManyRuns
+    room-left : number ≡ roomRefusal (runs y) size
     unfolding lengthsRefusal runsRefusal
-    then-thirteen = lengths-none (tooLong (length y)) (workLengthOff (length y) (map length work)) (listLengthsDiffer size (length (lists .ends)) (length (lists .periods))) d taken .3
+    room-left = lengths-none (tooLong (length y)) (workLengthOff (length y) (map length work)) differ-in-length (tooManyRuns y size) taken .3
 
-    pub refused-by-runs : size < length (runs y) → {cleared : List (List ℕ)} → cleared ≡ map zeros work → Reported y work lists cleared lists (NoValue TooManyRuns)
-    unfolding answer
-    refused-by-runs h w =
-        let q : runsRefusal y work lists ≡ 13 = then-thirteen ∙ ap (λ b. numberIf b TooManyRuns) (lt-ltb size (length (runs y)) h) in
-        let ne : runsRefusal y work lists ≢ 0 = (λ z. omega (arith, q, z)) in
-        let R = refusalsLeave y work lists in
-        record {
-          answers = ap refused (sym q) ∙ sym (unless-refused (runsRefusal y work lists) _ _ ne);
-          leaves-lists = sym (R .same-lists ne);
-          leaves-work = w ∙ sym (R .cleared (inr q));
-        }
+    writes-work : (number ≡ 0) ⊎ (number ≡ 13)
+    writes-work = go (tooManyRuns y size) room-left
+      where
+        go : (b : Bool) → number ≡ numberIf b TooManyRuns → (number ≡ 0) ⊎ (number ≡ 13)
+        go true e = inr e
+        go false e = inl e
 
-    pub reported : length (runs y) ≤ size → {c : ℕ} {after : Lists} {l : List Run} → c ≡ length (runs y) → after ≡ listsOf l size → l ≡ runs y → {cleared : List (List ℕ)} → cleared ≡ map zeros work → Reported y work lists cleared after (Value c)
+    pub reported : {l : List Run} → l ≡ runs y → {after : Lists} {r : Answer} → Written l lists after r → {cleared : List (List ℕ)} → cleared ≡ map zeros work
+        → Reported y work lists cleared after r
     unfolding answer listsAfter
-    reported h e f g w =
-        let q : runsRefusal y work lists ≡ 0 = then-thirteen ∙ ap (λ b. numberIf b TooManyRuns) (le-ltb size (length (runs y)) h) in
+    reported e W w =
+        let D = rw e at W in
         record {
-          answers = ap value e ∙ sym (unless-taken (runsRefusal y work lists) _ _ q);
-          leaves-lists = f ∙ ap (λ v. listsOf v size) g ∙ sym (unless-taken (runsRefusal y work lists) _ _ q);
-          leaves-work = w ∙ sym (refusalsLeave y work lists .cleared (inl q));
+          answers = D .answers ∙ ap (λ k. answered k (length (runs y))) (sym room-left);
+          leaves-lists = D .leaves ∙ ap (λ k. unlessRefused k (listsOf (runs y) size) lists) (sym room-left);
+          leaves-work = w ∙ sym (refusalsLeave y work lists .cleared writes-work);
         }
 
 -- ---- what is lent, where lengths refuse nothing

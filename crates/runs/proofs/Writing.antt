@@ -1,19 +1,28 @@
 -- Tables and lists that are written entry by entry.
 use mathlib.Core.Path.{_≡_, refl, sym, ap, _∙_}
-use mathlib.Core.List.{List, [], _∷_}
+use mathlib.Core.List.{List}
 use Prim.Native.Nat.{ℕ, zero, suc, _+_, _≤_, _<_}
 use native.Mathlib.Omega.{arith}
-use lib.ListN.{length, getD, set, replicate, length-set, length-replicate, getD-replicate}
+use lib.ListN.{length, getD, set, replicate, length-set}
 use lib.Seq.{getD-set-same, getD-set-other}
 use borrow.Author.Tests.{lt-ltb, le-ltb}
 use Rattle.suffix.specs.Search.{tabulate}
 use Rattle.suffix.proofs.Cases.{Tri, lt, eq, gt, tri, Same, same, other, same?}
 use Rattle.suffix.proofs.Search.{tabulate-is, tabulate-same}
+use Rattle.refusal.specs.declared.Refusal.the-variants.{TooManyRuns}
+use Rattle.refusal.specs.declared.Answer.the-variants.{Value, NoValue}
+use Rattle.refusal.specs.Numbers.{numberIf}
+use Rattle.refusal.specs.Answers.{value}
+use Rattle.refusal.proofs.Numbers.{unless-taken, unless-refused}
+use Rattle.refusal.proofs.Answers.{answered-value, answered-refused}
 use Rattle.repeats.specs.Runs.{Run}
 use Rattle.repeats.specs.Refusals.{Lists}
 use Rattle.repeats.specs.Roots.{noRun}
-use Rattle.repeats.specs.Answers.{zeros, entryOf, listsOf}
-use Rattle.runs.specs.States.{lists, entryIn, entriesFrom, entries, cutAt}
+use Rattle.repeats.specs.Answers.{entryOf, listsOf}
+use Rattle.roots.specs.States.{lists, entryIn, entriesFrom, entries}
+use Rattle.roots.proofs.Inserting.{entries-length}
+use Rattle.runs.specs.States.{cutAt, roomRefusal, Written}
+use Rattle.runs.specs.Reported.{workOf}
 
 -- the first k entries of d, a list that was d₀, are those of g
 pub record Writes (g : ℕ → ℕ) (k : ℕ) (d₀ d : List ℕ) : Type 0 where
@@ -34,12 +43,6 @@ module _ (g : ℕ → ℕ) where
 
   pub writes-all : {k : ℕ} {d₀ d : List ℕ} → Writes g k d₀ d → length d₀ ≤ k → d ≡ tabulate (length d₀) g
   writes-all {k} {d₀} {d} W h = tabulate-is g d (length d₀) (W .size) (λ i w. W .are i (omega arith))
-
-abbrev pub naught : ℕ → ℕ
-naught k = 0
-
-pub all-zeros : (d : List ℕ) → tabulate (length d) naught ≡ zeros d
-all-zeros d = sym (tabulate-is naught (zeros d) (length d) (length-replicate (length d) 0) (λ i h. getD-replicate (length d) i 0 0 h))
 
 pub cut-in : (c : ℕ) (t : List ℕ) (k : ℕ) → k < c → getD t k 0 ≡ cutAt c t k
 unfolding cutAt
@@ -76,11 +79,43 @@ unfolding listsOf
 cut-lists t c size =
     rw (cut-field t c (λ r. r .start) refl (t .starts) (λ k. refl) size, cut-field t c (λ r. r .end) refl (t .ends) (λ k. refl) size, cut-field t c (λ r. r .period) refl (t .periods) (λ k. refl) size)
 
-pub lists-written : (t : Lists) (c : ℕ) {size m n : ℕ} {s e p : List ℕ} → s ≡ tabulate size (cutAt c (t .starts)) → e ≡ tabulate m (cutAt c (t .ends)) → p ≡ tabulate n (cutAt c (t .periods)) → m ≡ size → n ≡ size
-    → lists s e p ≡ listsOf (entries t c) size
-lists-written t c {size} a b d u v = rw (a, b, d, u, v) (cut-lists t c size)
+module _ (t : Lists) (c : ℕ) (before : Lists) where
+  abbrev l : List Run
+  l = entries t c
 
--- six tables of the same lengths are cleared alike
-pub cleared-six : {t : List (List ℕ)} {a b c d e f a₀ b₀ c₀ d₀ e₀ f₀ : ℕ} → t ≡ replicate a 0 ∷ replicate b 0 ∷ replicate c 0 ∷ replicate d 0 ∷ replicate e 0 ∷ replicate f 0 ∷ []
-    → a ≡ a₀ → b ≡ b₀ → c ≡ c₀ → d ≡ d₀ → e ≡ e₀ → f ≡ f₀ → t ≡ replicate a₀ 0 ∷ replicate b₀ 0 ∷ replicate c₀ 0 ∷ replicate d₀ 0 ∷ replicate e₀ 0 ∷ replicate f₀ 0 ∷ []
+  abbrev size : ℕ
+  size = length (before .starts)
+
+  count : c ≡ length l
+  count = sym (entries-length t 0 c)
+
+  -- the lists have fewer entries
+  pub left : size < c → Written l before before (NoValue TooManyRuns)
+  left h =
+      let q : roomRefusal l size ≡ 13 = ap (λ b. numberIf b TooManyRuns) (lt-ltb size (length l) (omega (arith, count))) in
+      record {
+        answers = answered-refused (roomRefusal l size) (length l) TooManyRuns (sym q);
+        leaves = sym (unless-refused (roomRefusal l size) (listsOf l size) before (λ z. omega (arith, q, z)));
+      }
+
+  pub written : c ≤ size → {s e p : List ℕ} → s ≡ tabulate size (cutAt c (t .starts)) → e ≡ tabulate (length (before .ends)) (cutAt c (t .ends))
+      → p ≡ tabulate (length (before .periods)) (cutAt c (t .periods)) → length (before .ends) ≡ size → length (before .periods) ≡ size
+      → {k : ℕ} → k ≡ c → Written l before (lists s e p) (Value k)
+  written h {s} {e} {p} a b d u v w =
+      let q : roomRefusal l size ≡ 0 = ap (λ b. numberIf b TooManyRuns) (le-ltb size (length l) (omega (arith, count))) in
+      let z : lists s e p ≡ listsOf l size = rw (a, b, d, u, v) (cut-lists t c size) in
+      record {
+        answers = ap value (w ∙ count) ∙ answered-value (roomRefusal l size) (length l) q;
+        leaves = z ∙ sym (unless-taken (roomRefusal l size) (listsOf l size) before q);
+      }
+
+-- ---- six tables
+
+pub six-are : {a b c d e f a′ b′ c′ d′ e′ f′ : List ℕ} → a ≡ a′ → b ≡ b′ → c ≡ c′ → d ≡ d′ → e ≡ e′ → f ≡ f′ → workOf a b c d e f ≡ workOf a′ b′ c′ d′ e′ f′
+six-are p q r s u v = rw (p, q, r, s, u, v)
+
+-- of the same lengths they are cleared alike
+pub cleared-six : {t : List (List ℕ)} {a b c d e f a₀ b₀ c₀ d₀ e₀ f₀ : ℕ}
+    → t ≡ workOf (replicate a 0) (replicate b 0) (replicate c 0) (replicate d 0) (replicate e 0) (replicate f 0) → a ≡ a₀ → b ≡ b₀ → c ≡ c₀ → d ≡ d₀ → e ≡ e₀ → f ≡ f₀
+    → t ≡ workOf (replicate a₀ 0) (replicate b₀ 0) (replicate c₀ 0) (replicate d₀ 0) (replicate e₀ 0) (replicate f₀ 0)
 cleared-six w p q r s u v = rw (p, q, r, s, u, v) at w

@@ -11,7 +11,7 @@ use Rattle.repeats.specs.Answers.{answer, listsAfter, workAfter}
 abbrev pub workOf : (previous next previousMatch nextMatch reverseNext reverseMatch : List ℕ) → List (List ℕ)
 workOf previous next previousMatch nextMatch reverseNext reverseMatch = previous ∷ next ∷ previousMatch ∷ nextMatch ∷ reverseNext ∷ reverseMatch ∷ []
 
--- of one and the same call, whatever the y and the lent memory
+-- of one and the same call, whatever the string and the lent memory
 pub record Reported (y : List ℕ) (work : List (List ℕ)) (lists : Lists) (workExit : List (List ℕ)) (listsExit : Lists) (r : Answer) : Type 0 where
   pub answers : figuresOf r ≡ answer y work lists
   pub leaves-lists : listsExit ≡ listsAfter y work lists

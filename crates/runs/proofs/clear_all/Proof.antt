@@ -1,21 +1,31 @@
 -- `runs::clear_all` meets its contract.
+use mathlib.Core.Path.{_∙_}
+use native.Mathlib.Omega.{arith}
+use Rattle.entries.proofs.Clearing.{cleared-all}
+use Rattle.runs.proofs.Writing.{six-are}
 use Rattle.runs.proofs.clear_all.Statement.{statement}
 use Rattle.runs.proofs.clear_all.Tie as tie
 
 returns : tie.Need-returns
 returns c =
-    rw (c .before .before .before .before .before .before .before .before .before .before .before .before .before .before .before .before .before .before .before .before .before .before .clear .ensures, c .before .before .before .before .before .before .before .before .before .before .before .before .before .before .before .before .before .before .clear2 .ensures, c .before .before .before .before .before .before .before .before .before .before .before .before .before .before .clear3 .ensures, c .before .before .before .before .before .before .before .before .before .before .clear4 .ensures, c .before .before .before .before .before .before .clear5 .ensures, c .before .before .clear6 .ensures)
+    six-are
+    (c .before .before .before .before .before .before .before .before .before .before .before .before .before .before .before .before .before .before .before .before .before .before .clear-from .ensures ∙ cleared-all 0 _)
+    (c .before .before .before .before .before .before .before .before .before .before .before .before .before .before .before .before .before .before .clear-from2 .ensures ∙ cleared-all 0 _)
+    (c .before .before .before .before .before .before .before .before .before .before .before .before .before .before .clear-from3 .ensures ∙ cleared-all 0 _)
+    (c .before .before .before .before .before .before .before .before .before .before .clear-from4 .ensures ∙ cleared-all 0 _)
+    (c .before .before .before .before .before .before .clear-from5 .ensures ∙ cleared-all 0 _)
+    (c .before .before .clear-from6 .ensures ∙ cleared-all 0 _)
 
 pub clear-all-spec : {M : Type 1} → statement M
 clear-all-spec =
     tie.close
     (tie.spec
-    (λ c κs. tt)
-    (λ c κs. tt)
-    (λ c κs. tt)
-    (λ c κs. tt)
-    (λ c κs. tt)
-    (λ c κs. tt)
+    (λ c κs. (omega arith, omega arith))
+    (λ c κs. (omega arith, omega arith))
+    (λ c κs. (omega arith, omega arith))
+    (λ c κs. (omega arith, omega arith))
+    (λ c κs. (omega arith, omega arith))
+    (λ c κs. (omega arith, omega arith))
     (λ c. c .before .before .before .before .before .before .before .before .before .before .before .before .before .before .before .before .before .before .before .before .before .previous .given)
     (λ c. c .before .before .before .before .before .before .before .before .before .before .before .before .before .before .before .before .before .next .given)
     (λ c. c .before .before .before .before .before .before .before .before .before .before .before .before .before .previous-match .given)

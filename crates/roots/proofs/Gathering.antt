@@ -7,7 +7,8 @@ use Prim.Native.Nat.{ℕ, suc, _+_, _≤_, _<_}
 use native.Mathlib.Omega.{arith}
 use native.Mathlib.Numerals.{add-one}
 use lib.ListN.{length, getD}
-use Rattle.suffix.specs.Ranks.{ranks, greatestRank, oriented}
+use Rattle.suffix.specs.Ranks.{greatestRank, oriented}
+use Rattle.suffix.specs.Search.{tabulate}
 use Rattle.suffix.specs.Rows.{Tables}
 use Rattle.suffix.specs.Nearest.{next, nextMatch}
 use Rattle.suffix.proofs.Search.{tabulate-length, tabulate-entry}
@@ -23,8 +24,8 @@ use Rattle.repeats.specs.Refusals.{Lists}
 use Rattle.repeats.specs.Roots.{reportOf, reportAt, put, gathered}
 use Rattle.repeats.specs.Claims.{Before, AtMost}
 use Rattle.repeats.proofs.Gathering.{Holds, Gathers, puts, leaves, gathers-how, gathered-holds, gathered-is, gathered-few, fresh}
-use Rattle.runs.specs.States.{entryIn, entriesFrom, entries, Has, Within, Insertable, Put, Tabled}
-use Rattle.runs.proofs.Inserting.{entries-length, entry-mem, entries-ordered}
+use Rattle.roots.specs.States.{entryIn, entriesFrom, entries, Has, Within, Insertable, Put, Tabled}
+use Rattle.roots.proofs.Inserting.{entries-length, entry-mem, entries-ordered}
 
 -- next and its match lie in the string, under either order
 pub within-next : (y : List ℕ) (o : Bool) (i : ℕ) → i < length y → {j : ℕ} → j ≡ next (oriented o y) i → {m : ℕ} → m ≡ nextMatch (oriented o y) i → Within (length y) i j m
@@ -38,13 +39,13 @@ within-next y o i h a b =
     record { after = omega (arith, N .after); fits = omega (arith, next-match-is z i g) }
 
 -- the tables of an order are built
-pub tabled : {letters : List ℕ} {o : Bool} {before after : Tables} {verdict : Verdict} → Lengths (length letters) before → TablesBuilt letters o before after verdict
-    → Tabled (ranks letters) o (after .next) (after .nextMatch)
-tabled {letters} {o} {before} {after} S B =
-    let y : List ℕ = oriented o (ranks letters) in
-    let n : length y ≡ length letters = oriented-length greatestRank o (ranks letters) in
-    let all = whole letters o before S B ∙ rw n at (allRowsGiveAllEntries y) in
-    record { next = ap (λ (t : Tables). t .next) all; match = ap (λ (t : Tables). t .nextMatch) all }
+pub tabled : (y : List ℕ) (o : Bool) {before after : Tables} {verdict : Verdict} → Lengths (length (oriented o y)) before → TablesBuilt (oriented o y) before after verdict
+    → Tabled y o (after .next) (after .nextMatch)
+tabled y o {before} {after} S B =
+    let z : List ℕ = oriented o y in
+    let n : length z ≡ length y = oriented-length greatestRank o y in
+    let all = whole z before S B ∙ allRowsGiveAllEntries z in
+    record { next = ap (λ (t : Tables). t .next) all ∙ ap (λ k. tabulate k (next z)) n; match = ap (λ (t : Tables). t .nextMatch) all ∙ ap (λ k. tabulate k (nextMatch z)) n }
 
 -- what the tables of an order say
 module _ {y : List ℕ} {o : Bool} {nexts matches : List ℕ} (T : Tabled y o nexts matches) where

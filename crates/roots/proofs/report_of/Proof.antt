@@ -1,9 +1,9 @@
--- `runs::report_of` meets its contract.
+-- `roots::report_of` meets its contract.
 use native.Mathlib.Omega.{arith}
 use borrow.Author.Needs.{needs}
-use Rattle.runs.proofs.Judging.{reports-first, reports-second, reports-none}
-use Rattle.runs.proofs.report_of.Statement.{statement}
-use Rattle.runs.proofs.report_of.Tie as tie
+use Rattle.roots.proofs.Judging.{reports-first, reports-second, reports-none}
+use Rattle.roots.proofs.report_of.Statement.{statement}
+use Rattle.roots.proofs.report_of.Tie as tie
 
 returns : tie.Need-returns
 returns c = reports-first _ _ _ _ _ _ _ (c .before .accepted-left .ensures) (c .if1 .taken)

@@ -1,7 +1,7 @@
--- `runs::gather_all` meets its contract.
+-- `roots::gather_all` meets its contract.
 use mathlib.Core.Path.{_∙_}
-use Rattle.runs.proofs.gather_all.Statement.{statement}
-use Rattle.runs.proofs.gather_all.Tie as tie
+use Rattle.roots.proofs.gather_all.Statement.{statement}
+use Rattle.roots.proofs.gather_all.Tie as tie
 
 gather-requires : tie.Need-gather-requires
 gather-requires c κs =

@@ -1,7 +1,7 @@
--- `runs::comes_before` meets its contract.
-use Rattle.runs.proofs.Inserting.{before-same, before-other}
-use Rattle.runs.proofs.comes_before.Statement.{statement}
-use Rattle.runs.proofs.comes_before.Tie as tie
+-- `roots::comes_before` meets its contract.
+use Rattle.roots.proofs.Inserting.{before-same, before-other}
+use Rattle.roots.proofs.comes_before.Statement.{statement}
+use Rattle.roots.proofs.comes_before.Tie as tie
 
 returns : tie.Need-returns
 returns c = before-same _ _ (c .before .before .if1 .taken)

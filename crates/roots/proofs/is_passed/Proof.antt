@@ -1,8 +1,8 @@
--- `runs::is_passed` meets its contract.
+-- `roots::is_passed` meets its contract.
 use borrow.Author.Needs.{needs}
-use Rattle.runs.proofs.Inserting.{passes-none, passes-one}
-use Rattle.runs.proofs.is_passed.Statement.{statement}
-use Rattle.runs.proofs.is_passed.Tie as tie
+use Rattle.roots.proofs.Inserting.{passes-none, passes-one}
+use Rattle.roots.proofs.is_passed.Statement.{statement}
+use Rattle.roots.proofs.is_passed.Tie as tie
 
 returns : tie.Need-returns
 returns c = passes-none _ _ _ (c .if1 .taken)

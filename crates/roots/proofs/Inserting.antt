@@ -16,7 +16,7 @@ use Rattle.repeats.specs.Roots.{before, insert}
 use Rattle.repeats.specs.Claims.{Before, earlier, shorter, Ordered, then}
 use Rattle.repeats.proofs.Listing.{before-trans, run-eq}
 use Rattle.repeats.proofs.Gathering.{before-yes, insert-at, put-none, put-one}
-use Rattle.runs.specs.States.{entryIn, entriesFrom, entries, stored, Has, passes, Insertable, Put}
+use Rattle.roots.specs.States.{entryIn, entriesFrom, entries, stored, Has, passes, Insertable, Put}
 
 -- ---- the order as the code tests it
 

@@ -7,7 +7,7 @@ use native.Mathlib.Omega.{arith}
 use lib.ListN.{length}
 use Rattle.repeats.specs.Roots.{leftOf, reports, noRun, reportOf}
 use Rattle.repeats.proofs.Roots.{Accepts, tell-accepts, accepts-not, left-most}
-use Rattle.runs.specs.States.{Judged}
+use Rattle.roots.specs.States.{Judged}
 
 module _ (y : List ℕ) (reverse : Bool) (i j m : ℕ) where
   pub judged-no : (Accepts y reverse i j m → ⊥) → Judged y reverse i j m 0
