@@ -4,7 +4,7 @@ use mathlib.Core.Bool.{Bool, true, false}
 use mathlib.Core.List.{List, [], _∷_}
 use Prim.Native.Nat.{ℕ, zero, suc, _-_, _≤_, _<_}
 use native.Mathlib.Omega.{arith}
-use lib.ListN.{length, getD, length-map}
+use lib.ListN.{length, getD, drop, length-map}
 use Rattle.suffix.specs.Ranks.{rank, ranks, greatestRank, orientedFrom}
 
 pub ranks-length : (letters : List ℕ) → length (ranks letters) ≡ length letters
@@ -23,6 +23,11 @@ pub ranks-most : (letters : List ℕ) → ((i : ℕ) → i < length letters → 
 ranks-most letters bytes i h =
     let g : i < length letters = omega (arith, ranks-length letters) in
     omega (arith, ranks-entry letters i g, rank-byte (getD letters i 0) (bytes i g))
+-- the ranks of a suffix
+pub ranks-drop : (i : ℕ) (letters : List ℕ) → ranks (drop i letters) ≡ drop i (ranks letters)
+ranks-drop zero letters = refl
+ranks-drop (suc i) [] = refl
+ranks-drop (suc i) (x ∷ letters) = ranks-drop i letters
 
 pub oriented-length : (top : ℕ) (reverse : Bool) (y : List ℕ) → length (orientedFrom top reverse y) ≡ length y
 oriented-length top false y = refl

@@ -8,7 +8,10 @@ use native.Mathlib.Omega.{arith}
 use lib.ListN.{length, take, drop, length-drop}
 use borrow.Author.Tests.{lt-ltb, le-ltb, le-leb, lt-leb, leb-false, eq-eqb, ne-eqb}
 use borrow.Rule.Slice.PartAt.{part-to-end}
+use Rattle.suffix.specs.Ranks.{ranks}
+use Rattle.suffix.specs.Nearest.{next}
 use Rattle.suffix.specs.Lyndon.{part, longestLyndon}
+use Rattle.suffix.proofs.Ranks.{ranks-length, ranks-drop}
 use Rattle.suffix.proofs.Nearest.{next-le}
 use Rattle.suffix.proofs.Lyndon.{part-length, longest-next}
 use Rattle.refusal.specs.Numbers.{lowest, lowestFrom}
@@ -42,8 +45,13 @@ inside n i e = leb-false n i (go (tooLong n) (positionOutside n i) e)
 
 -- ---- the part
 
+-- the longest Lyndon word at the front of a suffix
+longest-from : (y : List ℕ) (i : ℕ) → longestLyndon (drop i y) 0 ≡ longestLyndon y i
+unfolding longestLyndon part
+longest-from y i = let z : length (drop i y) - 0 ≡ length y - i = omega (arith, length-drop i y) in rw z
+
 module _ (y : List ℕ) (i : ℕ) where
-  pub part-taken : wordRefusal (length y) i ≡ 0 → wordPart y i ≡ part y i (longestLyndon y i)
+  pub part-taken : wordRefusal (length y) i ≡ 0 → wordPart y i ≡ part y i (longestLyndon (ranks y) i)
   unfolding wordPart
   part-taken e = rw (eq-eqb _ 0 e, wordPart)
 
@@ -63,15 +71,17 @@ module _ (y : List ℕ) (i : ℕ) where
   pub cut-length : length (take (length y - i) (drop i y)) ≡ length y - i
   cut-length = rw part-to-end (length-drop i y)
 
-  pub longest-cut : longestLyndon (take (length y - i) (drop i y)) 0 ≡ longestLyndon y i
-  unfolding longestLyndon part
-  longest-cut = let z : length (drop i y) - 0 ≡ length y - i = omega (arith, length-drop i y) in rw (part-to-end, z)
+  pub longest-cut : longestLyndon (ranks (take (length y - i) (drop i y))) 0 ≡ longestLyndon (ranks y) i
+  longest-cut = rw part-to-end (ap (λ l. longestLyndon l 0) (ranks-drop i y) ∙ longest-from (ranks y) i)
 
-  pub longest-fits : i < length y → i + longestLyndon y i ≤ length y
-  longest-fits h = omega (arith, longest-next y i h, next-le y i)
+  pub longest-is : i < length y → longestLyndon (ranks y) i ≡ next (ranks y) i - i
+  longest-is h = longest-next (ranks y) i (omega (arith, ranks-length y))
+
+  pub longest-fits : i < length y → i + longestLyndon (ranks y) i ≤ length y
+  longest-fits h = omega (arith, longest-is h, next-le (ranks y) i, ranks-length y)
 
 pub wordIsLongest : WordIsLongest
 wordIsLongest y i e =
     let h : i < length y = inside (length y) i e in
-    let z : length (wordPart y i) ≡ longestLyndon y i = ap length (part-taken y i e) ∙ part-length y i (longestLyndon y i) (longest-fits y i h) in
-    (omega (arith, z, longest-next y i h), z)
+    let z : length (wordPart y i) ≡ longestLyndon (ranks y) i = ap length (part-taken y i e) ∙ part-length y i (longestLyndon (ranks y) i) (longest-fits y i h) in
+    (omega (arith, z, longest-is y i h), z)

@@ -18,8 +18,8 @@ fn longest_lyndon_prefix(s: &[u8]) -> usize
     let mut k = 0;
     let mut j = 1;
     while j < n {
-        let a = s[k];
-        let b = s[j];
+        let a = suffix::rank(s[k]);
+        let b = suffix::rank(s[j]);
         if b < a {
             return j - k;
         }
