@@ -6,9 +6,11 @@ use Prim.Native.Nat.{ℕ, zero, suc, _≤_, _<_}
 use native.Mathlib.Omega.{arith}
 use lib.ListN.{length, getD, take}
 use borrow.Author.Tests.{lt-ltb, le-ltb, eq-eqb}
+use Rattle.suffix.specs.Ranks.{ranks}
 use Rattle.suffix.specs.Search.{tabulate}
 use Rattle.suffix.specs.Nearest.{previous, next}
 use Rattle.suffix.specs.Tree.{treeBytes, treeLength, byteOf, treeAfter}
+use Rattle.suffix.proofs.Ranks.{ranks-length}
 use Rattle.suffix.proofs.Cases.{Same, same, other, same?}
 use Rattle.suffix.proofs.Search.{tabulate-length, tabulate-entry}
 use Rattle.suffix.proofs.Laws.{allRowsGiveAllEntries}
@@ -80,40 +82,53 @@ module _ (y : List ℕ) (before after : Lent) (b : Built) (accepted : refusalOf 
       }
 
 -- where the memory has room
-module _ {y : List ℕ} {before after : Lent} {b : Built}
-    (r : Room (length y) (length (before .tables .previous)) (length (before .tables .next)) (length (before .tables .previousMatch)) (length (before .tables .nextMatch)) (length (before .tree)))
-    (e : BuiltExactly y (length y) before after b) where
-  pub few-compared : countOf (figuresOf b) ≤ mostCompared
+module _ (letters : List ℕ) {before after : Lent} {b : Built}
+    (r : Room (length letters) (length (before .tables .previous)) (length (before .tables .next)) (length (before .tables .previousMatch)) (length (before .tables .nextMatch)) (length (before .tree)))
+    (e : BuiltExactly (ranks letters) (length letters) before after b) where
+  abbrev y : List ℕ
+  y = ranks letters
+
+  not-refused : refusalOf y (length y) before ≡ 0
   unfolding refusalOf
-  few-compared = few y before after b (taken r) e (r .few)
+  not-refused = rw (ranks-length letters) (taken r)
+
+  -- as many rows as ranks
+  all-rows : BuiltExactly y (length y) before after b
+  all-rows = rw (ranks-length letters) e
+
+  pub few-compared : countOf (figuresOf b) ≤ mostCompared
+  few-compared = few y before after b not-refused all-rows (omega (arith, ranks-length letters, r .few))
 
   pub whole-build : {c : ℕ} → c ≡ countOf (figuresOf b) → WholeBuild y (after .tables .previous) (after .tables .next) (after .tree) c
-  unfolding refusalOf
-  whole-build z = rw z (exactly y before after b (taken r) e)
+  whole-build z = rw z (exactly y before after b not-refused all-rows)
 
 tree-small : (y : List ℕ) → length y ≤ 2048 → length (treeBytes y (length y)) ≤ 512
 unfolding treeBytes
 tree-small y h = let z = tabulate-length (byteOf (λ k. getD (treeAfter y (length y)) k false)) (treeLength (length y)) in omega arith
 
-pub head-fits : {y p q t : List ℕ} {c : ℕ} → WholeBuild y p q t c → length y ≤ 2048 → length (headText (length y) c t) ≤ 1100
-head-fits {y} {p} {q} {t} {c} w h = head-most (length y) c t (omega (arith, ap length (w .tree), tree-small y h))
+pub head-fits :
+    {p q t : List ℕ} {c : ℕ} (letters : List ℕ)
+    → WholeBuild (ranks letters) p q t c → length letters ≤ 2048 → length (headText (length letters) c t) ≤ 1100
+head-fits {p} {q} {t} {c} letters w h =
+    let small = tree-small (ranks letters) (omega (arith, ranks-length letters)) in
+    head-most (length letters) c t (omega (arith, ap length (w .tree), small))
 
 pub wrote-tables :
-    {y p q t u v w : List ℕ} {c x z : ℕ}
-    → WholeBuild y p q t c
-    → Wrote u v (headText (length y) c t) 0 x
-    → Wrote v w (lines y (length y)) x z
-    → Wrote u w (tablesText y) 0 z
+    {p q t u v w : List ℕ} {c x z : ℕ} (letters : List ℕ)
+    → WholeBuild (ranks letters) p q t c
+    → Wrote u v (headText (length letters) c t) 0 x
+    → Wrote v w (lines (ranks letters) (length letters)) x z
+    → Wrote u w (tablesText (ranks letters)) 0 z
 unfolding tablesText
-wrote-tables b h l = wrote-then (rw (b .count, b .tree) at h) l
+wrote-tables letters b h l = rw (ranks-length letters) (wrote-then (rw (b .count, b .tree, ranks-length letters) at h) l)
 
 text-long : (y : List ℕ) → 2048 < length y → programText y ≡ tooLongText
 unfolding programText
 text-long y h = rw (lt-ltb 2048 (length y) h)
 
-text-tables : (y : List ℕ) → length y ≤ 2048 → programText y ≡ tablesText y
+text-tables : (letters : List ℕ) → length letters ≤ 2048 → programText letters ≡ tablesText (ranks letters)
 unfolding programText
-text-tables y h = rw (le-ltb 2048 (length y) h)
+text-tables letters h = rw (le-ltb 2048 (length letters) h)
 
 rendered : {y a b t : List ℕ} {r : ℕ} → programText y ≡ t → Wrote a b t 0 r → Rendered y a b r
 rendered e w = record { size = omega (arith, w .size, ap length e); text = w .text ∙ sym e; rest = w .rest }
@@ -121,8 +136,9 @@ rendered e w = record { size = omega (arith, w .size, ap length e); text = w .te
 pub rendered-long : (y : List ℕ) → 2048 < length y → {a b : List ℕ} {r : ℕ} → Wrote a b tooLongText 0 r → Rendered y a b r
 rendered-long y h w = rendered (text-long y h) w
 
-pub rendered-tables : (y : List ℕ) → length y ≤ 2048 → {a b : List ℕ} {r : ℕ} → Wrote a b (tablesText y) 0 r → Rendered y a b r
-rendered-tables y h w = rendered (text-tables y h) w
+pub rendered-tables :
+    (letters : List ℕ) → length letters ≤ 2048 → {a b : List ℕ} {r : ℕ} → Wrote a b (tablesText (ranks letters)) 0 r → Rendered letters a b r
+rendered-tables letters h w = rendered (text-tables letters h) w
 
 take-fits : (r : ℕ) (l : List ℕ) → length (take r l) ≡ r → r ≤ length l
 take-fits zero l e = omega arith

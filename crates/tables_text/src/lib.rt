@@ -7,6 +7,7 @@ ghost use mathlib.Core.List.{[], _∷_};
 ghost use Prim.Native.Nat.{_+_, _≤_, _<_};
 ghost use lib.ListN.{length};
 ghost use Rattle.io.specs.Digits.{digits};
+ghost use Rattle.suffix.specs.Ranks.{ranks};
 ghost use Rattle.build.specs.Built.{figuresOf};
 ghost use Rattle.tables_text.specs.Text.{decimal, hexes, treeText, field, orDash, figure, lines, lineText, headText, tablesText, Rendered};
 ghost use Rattle.writing.specs.Writing.{Wrote};
@@ -132,9 +133,9 @@ fn put_head(out: &mut [u8], n: usize, count: usize, tree: &[u8]) -> usize
 
 // The lines of all positions of the letters, from their tables.
 fn put_lines(out: &mut [u8], at: usize, letters: &[u8], previous: &[u32], next: &[u32]) -> usize
-    requires { ⌜ Nearests (now letters) (now previous) (now next) ⌝ }
-    requires { ⌜ at + length (lines (now letters) (length (now letters))) ≤ length (now out) ⌝ }
-    ensures { λ r. ⌜ Wrote (now (out .entry)) (now (out .exit)) (lines (now (letters .entry)) (length (now (letters .entry)))) at r ⌝ }
+    requires { ⌜ Nearests (ranks (now letters)) (now previous) (now next) ⌝ }
+    requires { ⌜ at + length (lines (ranks (now letters)) (length (now letters))) ≤ length (now out) ⌝ }
+    ensures { λ r. ⌜ Wrote (now (out .entry)) (now (out .exit)) (lines (ranks (now (letters .entry))) (length (now (letters .entry)))) at r ⌝ }
 {
     let n = letters.len();
     let mut end = at;
@@ -166,7 +167,7 @@ fn build_all(
     tree: &mut [u8],
 ) -> usize
     requires { ⌜ Room (length (now letters)) (length (now previous)) (length (now next)) (length (now «previous_match»)) (length (now «next_match»)) (length (now tree)) ⌝ }
-    ensures { λ r. ⌜ WholeBuild (now (letters .entry)) (now (previous .exit)) (now (next .exit)) (now (tree .exit)) r ⌝ }
+    ensures { λ r. ⌜ WholeBuild (ranks (now (letters .entry))) (now (previous .exit)) (now (next .exit)) (now (tree .exit)) r ⌝ }
 {
     count(build::build(
         letters,
@@ -191,7 +192,7 @@ fn put_tables(
 ) -> usize
     requires { ⌜ Room (length (now letters)) (length (now previous)) (length (now next)) (length (now «previous_match»)) (length (now «next_match»)) (length (now tree)) ⌝ }
     requires { ⌜ 180000 ≤ length (now out) ⌝ }
-    ensures { λ r. ⌜ Wrote (now (out .entry)) (now (out .exit)) (tablesText (now (letters .entry))) 0 r ⌝ }
+    ensures { λ r. ⌜ Wrote (now (out .entry)) (now (out .exit)) (tablesText (ranks (now (letters .entry)))) 0 r ⌝ }
 {
     let comparisons = build_all(letters, previous, next, previous_match, next_match, tree);
     let at = put_head(out, letters.len(), comparisons, tree);
@@ -213,7 +214,7 @@ fn tree_bytes() -> [u8; 512]
 fn put_tables_of(out: &mut [u8], letters: &[u8]) -> usize
     requires { ⌜ length (now letters) ≤ 2048 ⌝ }
     requires { ⌜ 180000 ≤ length (now out) ⌝ }
-    ensures { λ r. ⌜ Wrote (now (out .entry)) (now (out .exit)) (tablesText (now (letters .entry))) 0 r ⌝ }
+    ensures { λ r. ⌜ Wrote (now (out .entry)) (now (out .exit)) (tablesText (ranks (now (letters .entry)))) 0 r ⌝ }
 {
     let n = letters.len();
     let t = (n + 3) / 4;

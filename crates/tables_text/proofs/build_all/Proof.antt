@@ -19,10 +19,12 @@ abbrev after : tie.After-build → Lent
 after b = let u = b .build .last .1 .1 in lent (u .0) (u .1 .0) (u .1 .1 .0) (u .1 .1 .1 .0) (u .1 .1 .1 .1 .0)
 
 count-requires : tie.Need-count-requires
-count-requires c κs = let b = built c in few-compared {before = before b} {after = after b} (start b .pre) (b .build .ensures)
+count-requires c κs = let b = built c in few-compared (start b .args .letters .now) {before = before b} {after = after b} (start b .pre) (b .build .ensures)
 
 returns : tie.Need-returns
-returns c = let b = built (c .before) in whole-build {before = before b} {after = after b} (start b .pre) (b .build .ensures) (c .count .ensures)
+returns c =
+    let b = built (c .before) in
+    whole-build (start b .args .letters .now) {before = before b} {after = after b} (start b .pre) (b .build .ensures) (c .count .ensures)
 
 pub build-all-spec : {M : Type 1} → statement M
 build-all-spec =
