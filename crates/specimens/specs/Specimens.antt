@@ -42,11 +42,11 @@ room n =
 
 -- what a build of R rows leaves there
 abbrev pub left : List ℕ → ℕ → Lent
-left letters R = lentAtExit letters R (room (length letters))
+left letters R = lentAtExit (ranks letters) R (room (length letters))
 
 -- what the definitions give, those by which the operations are specified
 abbrev pub given : Question → Reply
-given (answers letters R) = figures (answer letters R (room (length letters)))
+given (answers letters R) = figures (answer (ranks letters) R (room (length letters)))
 given (count letters R) = number (comparisons (ranks letters) R)
 given (previous letters R) = entries (left letters R .tables .previous)
 given (next letters R) = entries (left letters R .tables .next)
