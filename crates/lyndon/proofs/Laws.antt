@@ -19,9 +19,9 @@ use Rattle.shape.proofs.Laws.{finishedTree, haltedTree, haltedTreeIsRefused}
 use Rattle.lyndon.specs.Claims.{Fits, Reads, BuiltThenRead, HaltedThenRefused, HaltedThenRead}
 
 -- what a build that is not refused leaves
-left : (letters : List ℕ) (R : ℕ) (before : Lent) → refusalOf letters R before ≡ 0 → lentAtExit letters R before ≡ lentAfter letters R
+left : (y : List ℕ) (R : ℕ) (before : Lent) → refusalOf y R before ≡ 0 → lentAtExit y R before ≡ lentAfter y R
 unfolding lentAtExit
-left letters R before e = rw (eq-eqb (refusalOf letters R before) 0 e, lentAtExit)
+left y R before e = rw (eq-eqb (refusalOf y R before) 0 e, lentAtExit)
 
 -- over tables that fit, reading refuses what is no tree, and nothing else
 as-tree : (n : ℕ) (t : List ℕ) (tables : brackets.Lent) → Fits n tables → brackets.refusalOf n t tables ≡ treeRefusal n t
@@ -36,25 +36,25 @@ reads n t p x tables F A =
 
 pub builtThenRead : BuiltThenRead
 unfolding lentAfter
-builtThenRead letters before after tables e z F =
-    let n = length letters in
-    let a = accepted letters n before e in
-    reads n (after .tree) (after .tables .previous) (after .tables .next) tables F (rw (z, left letters n before e, allRowsGiveAllEntries letters) (finishedTree letters (a .few)))
+builtThenRead y before after tables e z F =
+    let n = length y in
+    let a = accepted y n before e in
+    reads n (after .tree) (after .tables .previous) (after .tables .next) tables F (rw (z, left y n before e, allRowsGiveAllEntries y) (finishedTree y (a .few)))
 
 pub haltedThenRefused : HaltedThenRefused
 unfolding lentAfter
-haltedThenRefused letters R before after tables h e z F =
-    let a = accepted letters R before e in
-    as-tree (length letters) (after .tree) tables F ∙ rw (z, left letters R before e) (haltedTreeIsRefused letters R h (a .few))
+haltedThenRefused y R before after tables h e z F =
+    let a = accepted y R before e in
+    as-tree (length y) (after .tree) tables F ∙ rw (z, left y R before e) (haltedTreeIsRefused y R h (a .few))
 
 pub haltedThenRead : HaltedThenRead
 unfolding lentAfter tablesAfter
-haltedThenRead letters R before after tables e z F =
-    let a = accepted letters R before e in
-    reads R _ _ _ tables F (rw (z, left letters R before e, seen (previousAfter letters R) (a .rows), seen (nextAfter letters R) (a .rows)) (haltedTree letters R (a .rows) (le-trans (a .rows) (a .few))))
+haltedThenRead y R before after tables e z F =
+    let a = accepted y R before e in
+    reads R _ _ _ tables F (rw (z, left y R before e, seen (previousAfter y R) (a .rows), seen (nextAfter y R) (a .rows)) (haltedTree y R (a .rows) (le-trans (a .rows) (a .few))))
   where
     n : ℕ
-    n = length letters
+    n = length y
 
     seen : (f : ℕ → ℕ) → R ≤ n → tabulate R (λ i. forNone n R (getD (tabulate n f) i 0)) ≡ tabulate R (λ i. forNone n R (f i))
     seen f h = tabulate-same (λ i. forNone n R (getD (tabulate n f) i 0)) (λ i. forNone n R (f i)) R (λ i k. ap (forNone n R) (tabulate-entry f n i (lt-of-lt-of-le k h)))

@@ -26,8 +26,8 @@ use Rattle.lyndon.specs.Replies.{buildReply, BuildReplied, ReadReplied, 
 
 -- a build that answers with a, and a reply with the figures of a
 pub built :
-    {letters : List ℕ} {R : ℕ} {before after : build.Lent} {a : Built} {given : BuildReply} → build.BuiltExactly letters R before after a
-    → given ≡ buildReply (build.figuresOf a) → BuildReplied letters R before after given
+    {y : List ℕ} {R : ℕ} {before after : build.Lent} {a : Built} {given : BuildReply} → build.BuiltExactly y R before after a
+    → given ≡ buildReply (build.figuresOf a) → BuildReplied y R before after given
 built e z = record { replies = z ∙ ap buildReply (e .answers); leaves = e .leaves; bounded = e .bounded }
 
 -- a reading, and the number of its verdict

@@ -22,19 +22,19 @@ pub record Reads (n : ℕ) (t : List ℕ) (tables : brackets.Lent) (p x : List �
 -- "The tree of a finished build, read back, gives the same previous and next tables"
 abbrev pub BuiltThenRead : Type 0
 BuiltThenRead =
-    (letters : List ℕ) (before after : Lent) (tables : brackets.Lent) → let n = length letters in
-    refusalOf letters n before ≡ 0 → after ≡ lentAtExit letters n before → Fits n tables → Reads n (after .tree) tables (after .tables .previous) (after .tables .next)
+    (y : List ℕ) (before after : Lent) (tables : brackets.Lent) → let n = length y in
+    refusalOf y n before ≡ 0 → after ≡ lentAtExit y n before → Fits n tables → Reads n (after .tree) tables (after .tables .previous) (after .tables .next)
 
 -- "Where R < n this isn't a tree of n positions: read at n it is refused 7."
 abbrev pub HaltedThenRefused : Type 0
 HaltedThenRefused =
-    (letters : List ℕ) (R : ℕ) (before after : Lent) (tables : brackets.Lent) → let n = length letters in
-    R < n → refusalOf letters R before ≡ 0 → after ≡ lentAtExit letters R before → Fits n tables → brackets.refusalOf n (after .tree) tables ≡ 7
+    (y : List ℕ) (R : ℕ) (before after : Lent) (tables : brackets.Lent) → let n = length y in
+    R < n → refusalOf y R before ≡ 0 → after ≡ lentAtExit y R before → Fits n tables → brackets.refusalOf n (after .tree) tables ≡ 7
 
 -- "Its first ceil(R/4) bytes, read with R for n, give the same entries below R, with R for none."
 abbrev pub HaltedThenRead : Type 0
 HaltedThenRead =
-    (letters : List ℕ) (R : ℕ) (before after : Lent) (tables : brackets.Lent) → let n = length letters in
-    refusalOf letters R before ≡ 0 → after ≡ lentAtExit letters R before → Fits R tables
+    (y : List ℕ) (R : ℕ) (before after : Lent) (tables : brackets.Lent) → let n = length y in
+    refusalOf y R before ≡ 0 → after ≡ lentAtExit y R before → Fits R tables
     → Reads R (firstBytes R (after .tree)) tables (tabulate R (λ i. forNone n R (getD (after .tables .previous) i 0)))
     (tabulate R (λ i. forNone n R (getD (after .tables .next) i 0)))

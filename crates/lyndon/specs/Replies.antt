@@ -28,10 +28,10 @@ buildReply (build.halted rows equal unequal reach) = record { refusal = 0; finis
 buildReply (build.refused number) = record { refusal = number; finished = 0; rows = 0; equal = 0; unequal = 0; reach = 0 }
 
 -- a build
-pub record BuildReplied (letters : List ℕ) (R : ℕ) (before after : build.Lent) (given : BuildReply) : Type 0 where
-  pub replies : given ≡ buildReply (build.answer letters R before)
-  pub leaves : after ≡ build.lentAtExit letters R before
-  pub bounded : build.Bounded letters R before
+pub record BuildReplied (y : List ℕ) (R : ℕ) (before after : build.Lent) (given : BuildReply) : Type 0 where
+  pub replies : given ≡ buildReply (build.answer y R before)
+  pub leaves : after ≡ build.lentAtExit y R before
+  pub bounded : build.Bounded y R before
 
 -- reading a tree
 pub record ReadReplied (n : ℕ) (tree : List ℕ) (before after : brackets.Lent) (number : ℕ) : Type 0 where

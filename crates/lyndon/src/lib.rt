@@ -93,7 +93,7 @@ pub extern "C" fn lyndon_build(
     tree: &mut [u8],
 ) -> BuildReply
     ensures { λ r.
-        ⌜ BuildReplied (now (letters .entry)) rows
+        ⌜ BuildReplied (ranks (now (letters .entry))) rows
         (lent (now (previous .entry)) (now (next .entry)) (now («previous_match» .entry)) (now («next_match» .entry)) (now (tree .entry)))
         (lent (now (previous .exit)) (now (next .exit)) (now («previous_match» .exit)) (now («next_match» .exit)) (now (tree .exit)))
         r ⌝ }
