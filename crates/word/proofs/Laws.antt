@@ -50,38 +50,38 @@ longest-from : (y : List ℕ) (i : ℕ) → longestLyndon (drop i y) 0 ≡ longe
 unfolding longestLyndon part
 longest-from y i = let z : length (drop i y) - 0 ≡ length y - i = omega (arith, length-drop i y) in rw z
 
-module _ (y : List ℕ) (i : ℕ) where
-  pub part-taken : wordRefusal (length y) i ≡ 0 → wordPart y i ≡ part y i (longestLyndon (ranks y) i)
+module _ (letters : List ℕ) (i : ℕ) where
+  pub part-taken : wordRefusal (length letters) i ≡ 0 → wordPart letters i ≡ part letters i (longestLyndon (ranks letters) i)
   unfolding wordPart
   part-taken e = rw (eq-eqb _ 0 e, wordPart)
 
-  pub part-refused : wordRefusal (length y) i ≢ 0 → wordPart y i ≡ []
+  pub part-refused : wordRefusal (length letters) i ≢ 0 → wordPart letters i ≡ []
   unfolding wordPart
   part-refused e = rw (ne-eqb _ 0 e, wordPart)
 
-  pub start-taken : wordRefusal (length y) i ≡ 0 → wordStart y i ≡ i
+  pub start-taken : wordRefusal (length letters) i ≡ 0 → wordStart letters i ≡ i
   unfolding wordStart
   start-taken e = rw (eq-eqb _ 0 e, wordStart)
 
-  pub start-refused : wordRefusal (length y) i ≢ 0 → wordStart y i ≡ 0
+  pub start-refused : wordRefusal (length letters) i ≢ 0 → wordStart letters i ≡ 0
   unfolding wordStart
   start-refused e = rw (ne-eqb _ 0 e, wordStart)
 
   -- what the slice from i on holds: the longest Lyndon word at its front is that from i
-  pub cut-length : length (take (length y - i) (drop i y)) ≡ length y - i
-  cut-length = rw part-to-end (length-drop i y)
+  pub cut-length : length (take (length letters - i) (drop i letters)) ≡ length letters - i
+  cut-length = rw part-to-end (length-drop i letters)
 
-  pub longest-cut : longestLyndon (ranks (take (length y - i) (drop i y))) 0 ≡ longestLyndon (ranks y) i
-  longest-cut = rw part-to-end (ap (λ l. longestLyndon l 0) (ranks-drop i y) ∙ longest-from (ranks y) i)
+  pub longest-cut : longestLyndon (ranks (take (length letters - i) (drop i letters))) 0 ≡ longestLyndon (ranks letters) i
+  longest-cut = rw part-to-end (ap (λ l. longestLyndon l 0) (ranks-drop i letters) ∙ longest-from (ranks letters) i)
 
-  pub longest-is : i < length y → longestLyndon (ranks y) i ≡ next (ranks y) i - i
-  longest-is h = longest-next (ranks y) i (omega (arith, ranks-length y))
+  pub longest-is : i < length letters → longestLyndon (ranks letters) i ≡ next (ranks letters) i - i
+  longest-is h = longest-next (ranks letters) i (omega (arith, ranks-length letters))
 
-  pub longest-fits : i < length y → i + longestLyndon (ranks y) i ≤ length y
-  longest-fits h = omega (arith, longest-is h, next-le (ranks y) i, ranks-length y)
+  pub longest-fits : i < length letters → i + longestLyndon (ranks letters) i ≤ length letters
+  longest-fits h = omega (arith, longest-is h, next-le (ranks letters) i, ranks-length letters)
 
 pub wordIsLongest : WordIsLongest
-wordIsLongest y i e =
-    let h : i < length y = inside (length y) i e in
-    let z : length (wordPart y i) ≡ longestLyndon (ranks y) i = ap length (part-taken y i e) ∙ part-length y i (longestLyndon (ranks y) i) (longest-fits y i h) in
-    (omega (arith, z, longest-is y i h), z)
+wordIsLongest letters i e =
+    let h : i < length letters = inside (length letters) i e in
+    let z : length (wordPart letters i) ≡ longestLyndon (ranks letters) i = ap length (part-taken letters i e) ∙ part-length letters i (longestLyndon (ranks letters) i) (longest-fits letters i h) in
+    (omega (arith, z, longest-is letters i h), z)

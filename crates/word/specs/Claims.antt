@@ -12,5 +12,5 @@ use Rattle.word.specs.Word.{wordPart}
 -- "The longest Lyndon word from i has length next[i] − i (documents 000 and 004)": so long is the part wherever it is not refused
 abbrev pub WordIsLongest : Type 0
 WordIsLongest =
-    (y : List ℕ) (i : ℕ) → wordRefusal (length y) i ≡ 0
-    → (length (wordPart y i) ≡ next (ranks y) i - i) × (length (wordPart y i) ≡ longestLyndon (ranks y) i)
+    (letters : List ℕ) (i : ℕ) → wordRefusal (length letters) i ≡ 0
+    → (length (wordPart letters i) ≡ next (ranks letters) i - i) × (length (wordPart letters i) ≡ longestLyndon (ranks letters) i)

@@ -1,4 +1,4 @@
--- Document 01, "The tree", last line, and "Who can cause which refusal": the longest-word question, put to the letters y at position i.
+-- Document 01, "The tree", last line, and "Who can cause which refusal": the longest-word question, put to the letters at position i.
 use mathlib.Core.Path.{_≡_}
 use mathlib.Core.Bool.{true, false}
 use mathlib.Core.List.{List, []}
@@ -13,11 +13,11 @@ use Rattle.refusal.specs.Conditions.{wordRefusal}
 -- "The longest-word question takes a string and a position and returns that part of the caller's string itself"; refused, it "returns the
 -- empty part"
 unfoldable pub wordPart : List ℕ → ℕ → List ℕ
-wordPart y i = elim (eqb (wordRefusal (length y) i) 0) [ true ↦ part y i (longestLyndon (ranks y) i) | false ↦ [] ]
+wordPart letters i = elim (eqb (wordRefusal (length letters) i) 0) [ true ↦ part letters i (longestLyndon (ranks letters) i) | false ↦ [] ]
 
 -- where the part starts: at the position; refused, "at the string's start"
 unfoldable pub wordStart : List ℕ → ℕ → ℕ
-wordStart y i = elim (eqb (wordRefusal (length y) i) 0) [ true ↦ i | false ↦ 0 ]
+wordStart letters i = elim (eqb (wordRefusal (length letters) i) 0) [ true ↦ i | false ↦ 0 ]
 
 -- The answer: the number, 0 for none; the part's letters; and that the part is "of the caller's string itself": its pointer, a block and
 -- a place in it, is that of the letters, moved on to where the part starts.

@@ -24,9 +24,9 @@ returns : tie.Need-returns
 returns c =
     let number = c .before .before .word-refusal .ensures in
     let a = c .before .before .before .before .args in
-    let y = a .letters .now in
-    let h : wordRefusal (length y) (a .position) ≢ 0 = λ e. c .before .if1 .taken (number ∙ e) in
-    record { refusal = number; part = sym (laws.part-refused y (a .position) h); own = rw (laws.start-refused y (a .position) h, zero-add) }
+    let letters = a .letters .now in
+    let h : wordRefusal (length letters) (a .position) ≢ 0 = λ e. c .before .if1 .taken (number ∙ e) in
+    record { refusal = number; part = sym (laws.part-refused letters (a .position) h); own = rw (laws.start-refused letters (a .position) h, zero-add) }
 
 -- past the refusal
 taken : (c : tie.Else1) → wordRefusal (length (c .before .before .before .args .letters .now)) (c .before .before .before .args .position) ≡ 0
@@ -52,21 +52,21 @@ longest-lyndon-prefix-requires c κs =
 slice-aggregate-result-2 : tie.Need-slice-aggregate-result-2
 slice-aggregate-result-2 c =
     let e = c .before .before .before in
-    let y = e .before .before .before .args .letters .now in
+    let letters = e .before .before .before .args .letters .now in
     let i = e .before .before .before .args .position in
-    sym (length-take-le _ _ (omega (arith, laws.cut-length y i, laws.longest-cut y i, laws.longest-fits y i (inside e))))
+    sym (length-take-le _ _ (omega (arith, laws.cut-length letters i, laws.longest-cut letters i, laws.longest-fits letters i (inside e))))
 
 returns-2 : tie.Need-returns-2
 unfolding part
 returns-2 c =
     let e = c .before .before .before in
-    let y = e .before .before .before .args .letters .now in
+    let letters = e .before .before .before .args .letters .now in
     let i = e .before .before .before .args .position in
-    let k = c .before .longest-lyndon-prefix .ensures ∙ laws.longest-cut y i in
+    let k = c .before .longest-lyndon-prefix .ensures ∙ laws.longest-cut letters i in
     record {
       refusal = e .before .word-refusal .ensures;
-      part = rw part-to-end (ap (part y i) k ∙ sym (laws.part-taken y i (taken e)));
-      own = rw (laws.start-taken y i (taken e));
+      part = rw part-to-end (ap (part letters i) k ∙ sym (laws.part-taken letters i (taken e)));
+      own = rw (laws.start-taken letters i (taken e));
     }
 
 pub word-spec : {M : Type 1} → statement M
