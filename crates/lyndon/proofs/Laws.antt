@@ -12,13 +12,17 @@ use Rattle.suffix.proofs.Laws.{allRowsGiveAllEntries}
 use Rattle.refusal.specs.Numbers.{lowest, lowestFrom}
 use Rattle.refusal.specs.Conditions.{readRefusal, treeRefusal}
 use Rattle.build.specs.Built.{Lent, lentAfter, refusalOf, lentAtExit}
-use Rattle.build.proofs.Answers.{accepted}
+use Rattle.build.proofs.Answers.{Accepted, accepted}
 use Rattle.shape.specs.Claims.{ReadsAs, forNone}
 use Rattle.brackets.specs.Answers as brackets
 use Rattle.shape.proofs.Laws.{finishedTree, haltedTree, haltedTreeIsRefused}
 use Rattle.lyndon.specs.Claims.{Fits, Reads, BuiltThenRead, HaltedThenRefused, HaltedThenRead}
 
--- what a build that is not refused leaves
+-- what a build that is not refused was lent, and leaves
+was-lent : (y : List ℕ) (R : ℕ) (before : Lent) → refusalOf y R before ≡ 0 → Accepted (length y) R before
+unfolding refusalOf
+was-lent y R before e = accepted (length y) R before e
+
 left : (y : List ℕ) (R : ℕ) (before : Lent) → refusalOf y R before ≡ 0 → lentAtExit y R before ≡ lentAfter y R
 unfolding lentAtExit
 left y R before e = rw (eq-eqb (refusalOf y R before) 0 e, lentAtExit)
@@ -38,19 +42,19 @@ pub builtThenRead : BuiltThenRead
 unfolding lentAfter
 builtThenRead y before after tables e z F =
     let n = length y in
-    let a = accepted y n before e in
+    let a = was-lent y n before e in
     reads n (after .tree) (after .tables .previous) (after .tables .next) tables F (rw (z, left y n before e, allRowsGiveAllEntries y) (finishedTree y (a .few)))
 
 pub haltedThenRefused : HaltedThenRefused
 unfolding lentAfter
 haltedThenRefused y R before after tables h e z F =
-    let a = accepted y R before e in
+    let a = was-lent y R before e in
     as-tree (length y) (after .tree) tables F ∙ rw (z, left y R before e) (haltedTreeIsRefused y R h (a .few))
 
 pub haltedThenRead : HaltedThenRead
 unfolding lentAfter tablesAfter
 haltedThenRead y R before after tables e z F =
-    let a = accepted y R before e in
+    let a = was-lent y R before e in
     reads R _ _ _ tables F (rw (z, left y R before e, seen (previousAfter y R) (a .rows), seen (nextAfter y R) (a .rows)) (haltedTree y R (a .rows) (le-trans (a .rows) (a .few))))
   where
     n : ℕ
