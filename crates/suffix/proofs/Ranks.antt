@@ -23,6 +23,7 @@ pub ranks-most : (letters : List ℕ) → ((i : ℕ) → i < length letters → 
 ranks-most letters bytes i h =
     let g : i < length letters = omega (arith, ranks-length letters) in
     omega (arith, ranks-entry letters i g, rank-byte (getD letters i 0) (bytes i g))
+
 -- the ranks of a suffix
 pub ranks-drop : (i : ℕ) (letters : List ℕ) → ranks (drop i letters) ≡ drop i (ranks letters)
 ranks-drop zero letters = refl
