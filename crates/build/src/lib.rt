@@ -105,9 +105,10 @@ fn scan(
         m += 1;
     }
     // at n, the suffix at r is the smaller
+    let left_smaller = false;
     ScanReport {
         matched: m,
-        left_smaller: false,
+        left_smaller,
         equal: equals,
         unequal,
     }

@@ -28,7 +28,7 @@ fn left_of(letters: &[u8], i: usize, j: usize) -> usize
         if x == i {
             return x;
         }
-        if x > j - i {
+        if j - i < x {
             return x;
         }
         let a = rank_at(letters, false, i - 1 - x);

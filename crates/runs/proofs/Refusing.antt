@@ -1,7 +1,7 @@
 -- The refusals, test by test.
 use mathlib.Core.Path.{_≡_, refl, sym, ap, _∙_}
 use mathlib.Core.Logic.{_≢_, _⊎_, inl, inr}
-use mathlib.Core.Bool.{Bool, true, false, not, _||_, or-false}
+use mathlib.Core.Bool.{Bool, true, false, not, _||_}
 use mathlib.Core.List.{List, [], _∷_, _++_, map}
 use Prim.Native.Nat.{ℕ, _≤_, _<_}
 use native.Mathlib.Omega.{arith}
@@ -26,14 +26,11 @@ use Rattle.runs.specs.Reported.{Reported}
 
 -- ---- 2
 
-pub off-here : {a n : ℕ} (others : Bool) → a ≢ n → true ≡ not (eqb a n) || others
-off-here {a} {n} others e = rw (ne-eqb a n e)
+pub off-here : (a n : ℕ) (others : Bool) → a ≢ n → true ≡ not (eqb a n) || others
+off-here a n others e = rw (ne-eqb a n e)
 
-pub off-later : {a n : ℕ} {b others : Bool} → a ≡ n → b ≡ others → b ≡ not (eqb a n) || others
-off-later {a} {n} e w = rw (eq-eqb a n e) w
-
-pub off-last : (b : Bool) → b ≡ b || false
-off-last b = sym (or-false b)
+pub off-later : (a n : ℕ) {b others : Bool} → a ≡ n → b ≡ others → b ≡ not (eqb a n) || others
+off-later a n e w = rw (eq-eqb a n e) w
 
 -- ---- 1, 2 and 12, by their tests a, b and c, and then 13, by its test d
 
@@ -77,27 +74,27 @@ module _ (n : ℕ) (work : List ℕ) (starts ends periods : ℕ) where
   abbrev differ : Bool
   differ = listLengthsDiffer starts ends periods
 
-  pub says-one : 1000000 < n → 1 ≡ lengthsRefusal n work starts ends periods
+  pub says-one : 1000000 < n → {k : ℕ} → k ≡ 1 → k ≡ lengthsRefusal n work starts ends periods
   unfolding lengthsRefusal
-  says-one h = first-one (tooLong n) (workLengthOff n work) differ (lt-ltb 1000000 n h)
+  says-one h q = q ∙ first-one (tooLong n) (workLengthOff n work) differ (lt-ltb 1000000 n h)
 
   module _ (h : n ≤ 1000000) where
-    pub says-two : workLengthOff n work ≡ true → 2 ≡ lengthsRefusal n work starts ends periods
+    pub says-two : workLengthOff n work ≡ true → {k : ℕ} → k ≡ 2 → k ≡ lengthsRefusal n work starts ends periods
     unfolding lengthsRefusal
-    says-two e = first-two (tooLong n) (workLengthOff n work) differ (le-ltb 1000000 n h) e
+    says-two e z = z ∙ first-two (tooLong n) (workLengthOff n work) differ (le-ltb 1000000 n h) e
 
     module _ (w : workLengthOff n work ≡ false) where
-      pub says-twelve : ends ≢ starts → 12 ≡ lengthsRefusal n work starts ends periods
+      pub says-twelve : ends ≢ starts → {k : ℕ} → k ≡ 12 → k ≡ lengthsRefusal n work starts ends periods
       unfolding lengthsRefusal
-      says-twelve e = first-twelve (tooLong n) (workLengthOff n work) differ (le-ltb 1000000 n h) w (sym (off-here (not (eqb periods starts)) e))
+      says-twelve e z = z ∙ first-twelve (tooLong n) (workLengthOff n work) differ (le-ltb 1000000 n h) w (sym (off-here ends starts (not (eqb periods starts)) e))
 
-      pub says-twelve-too : ends ≡ starts → periods ≢ starts → 12 ≡ lengthsRefusal n work starts ends periods
+      pub says-twelve-too : ends ≡ starts → periods ≢ starts → {k : ℕ} → k ≡ 12 → k ≡ lengthsRefusal n work starts ends periods
       unfolding lengthsRefusal
-      says-twelve-too e q = first-twelve (tooLong n) (workLengthOff n work) differ (le-ltb 1000000 n h) w (rw (eq-eqb ends starts e, ne-eqb periods starts q))
+      says-twelve-too e q z = z ∙ first-twelve (tooLong n) (workLengthOff n work) differ (le-ltb 1000000 n h) w (rw (eq-eqb ends starts e, ne-eqb periods starts q))
 
-      pub says-none : ends ≡ starts → periods ≡ starts → 0 ≡ lengthsRefusal n work starts ends periods
+      pub says-none : ends ≡ starts → periods ≡ starts → {k : ℕ} → k ≡ 0 → k ≡ lengthsRefusal n work starts ends periods
       unfolding lengthsRefusal
-      says-none e q = first-none (tooLong n) (workLengthOff n work) differ (le-ltb 1000000 n h) w (rw (eq-eqb ends starts e, eq-eqb periods starts q))
+      says-none e q z = z ∙ first-none (tooLong n) (workLengthOff n work) differ (le-ltb 1000000 n h) w (rw (eq-eqb ends starts e, eq-eqb periods starts q))
 
 -- ---- the two ways out
 

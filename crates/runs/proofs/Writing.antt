@@ -48,9 +48,9 @@ pub cut-in : (c : ℕ) (t : List ℕ) (k : ℕ) → k < c → getD t k 0 ≡ cut
 unfolding cutAt
 cut-in c t k h = rw (lt-ltb k c h, cutAt)
 
-pub cut-out : (c : ℕ) (t : List ℕ) (k : ℕ) → c ≤ k → 0 ≡ cutAt c t k
+pub cut-out : (c : ℕ) (t : List ℕ) (k : ℕ) → c ≤ k → {v : ℕ} → v ≡ 0 → v ≡ cutAt c t k
 unfolding cutAt
-cut-out c t k h = rw (le-ltb k c h, cutAt)
+cut-out c t k h e = e ∙ rw (le-ltb k c h, cutAt)
 
 -- the first c entries, as lists of a size
 entry-in : (t : Lists) (i c k : ℕ) → k < c → getD (entriesFrom t i c) k noRun ≡ entryIn t (i + k)
@@ -71,8 +71,8 @@ module _ (t : Lists) (c : ℕ) (field : Run → ℕ) (none : field noRun ≡ 0) 
     where
       go : (k : ℕ) → Tri k c → cutAt c d k ≡ field (entryOf (entries t c) k)
       go k (lt h) = sym (cut-in c d k h) ∙ sym (is k) ∙ ap field (ap (entryIn t) (omega arith) ∙ sym (entry-in t 0 c k h))
-      go k (eq h) = sym (cut-out c d k (omega arith)) ∙ sym none ∙ ap field (sym (entry-out t 0 c k (omega arith)))
-      go k (gt h) = sym (cut-out c d k (omega arith)) ∙ sym none ∙ ap field (sym (entry-out t 0 c k (omega arith)))
+      go k (eq h) = sym (cut-out c d k (omega arith) refl) ∙ sym none ∙ ap field (sym (entry-out t 0 c k (omega arith)))
+      go k (gt h) = sym (cut-out c d k (omega arith) refl) ∙ sym none ∙ ap field (sym (entry-out t 0 c k (omega arith)))
 
 pub cut-lists : (t : Lists) (c size : ℕ) → lists (tabulate size (cutAt c (t .starts))) (tabulate size (cutAt c (t .ends))) (tabulate size (cutAt c (t .periods))) ≡ listsOf (entries t c) size
 unfolding listsOf

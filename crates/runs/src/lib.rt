@@ -57,7 +57,10 @@ fn any_off(n: usize, a: usize, b: usize, c: usize, d: usize, e: usize, f: usize)
     if e != n {
         return true;
     }
-    f != n
+    if f != n {
+        return true;
+    }
+    false
 }
 
 // Whether lengths refuse: 1, 2 or 12.
