@@ -29,7 +29,7 @@ none-left n t S =
     rw (past (t .previous) n (S .previous), past (t .next) n (S .next), past (t .previousMatch) 0 (S .previousMatch), past (t .nextMatch) 0 (S .nextMatch))
   where
     past : (l : List ℕ) (v : ℕ) → length l ≡ n → clearedFrom n v l ≡ l
-    past l v e = ap (λ k. clearedFrom k v l) (sym e) ∙ cleared-none v l
+    past l v e = cleared-none n v l (omega arith)
 
 module _ (y : List ℕ) (before : Tables) where
   -- what is left over tables of n entries

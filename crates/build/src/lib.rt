@@ -10,7 +10,6 @@ ghost use Rattle.reuse.specs.Steps.{scan as stepScan, scanned, afterRows};
 ghost use Rattle.build.specs.States.{stringOf, progressOf, reportOf, pairOf, tablesOf, clearedTables, buildState, Safe, settledFrom};
 ghost use Rattle.build.specs.Built.{lent, BuiltExactly, TablesBuilt};
 use entries::clear_from;
-use entries::read;
 use refusal::Refusal;
 use refusal::Verdict;
 
@@ -53,8 +52,22 @@ pub enum Built {
     Refused(Refusal),
 }
 
+// An entry as an index.
+fn wide(x: u32) -> usize
+    ensures { λ r. ⌜ (r ≡ x) × (r < 4294967296) ⌝ }
+{
+    x as usize
+}
+
+fn read(table: &[u32], i: usize) -> usize
+    requires { ⌜ i < length (now table) ⌝ }
+    ensures { λ r. ⌜ (r ≡ getD (now (table .entry)) i 0) × (r < 4294967296) ⌝ }
+{
+    wide(table[i])
+}
+
 // The rank of the letter at i, in the order of the letters or in its reverse.
-pub fn rank_at(letters: &[u8], reverse: bool, i: usize) -> u32
+fn rank_at(letters: &[u8], reverse: bool, i: usize) -> u32
     requires { ⌜ i < length (now letters) ⌝ }
     ensures { λ r. ⌜ r ≡ getD (stringOf reverse (now (letters .entry))) i 0 ⌝ }
 {
@@ -315,8 +328,9 @@ fn clear_tables(
         ⌜ tablesOf (now (previous .exit)) (now (next .exit)) (now («previous_match» .exit)) (now («next_match» .exit))
         ≡ clearedTables n rows (tablesOf (now (previous .entry)) (now (next .entry)) (now («previous_match» .entry)) (now («next_match» .entry))) ⌝ }
 {
-    clear_from(previous, rows, n);
-    clear_from(next, rows, n);
+    let none = n as u32;
+    clear_from(previous, rows, none);
+    clear_from(next, rows, none);
     clear_from(previous_match, rows, 0);
     clear_from(next_match, rows, 0);
 }

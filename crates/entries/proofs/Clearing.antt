@@ -18,10 +18,11 @@ pub cleared-alike : {k v k′ v′ : ℕ} (t : List ℕ) → k ≡ k′ → v �
 cleared-alike t p q = rw (p, q)
 
 -- no place is left, and every place is
-pub cleared-none : (v : ℕ) (t : List ℕ) → clearedFrom (length t) v t ≡ t
+pub cleared-none : (k v : ℕ) (t : List ℕ) → length t ≤ k → clearedFrom k v t ≡ t
 unfolding clearedFrom
-cleared-none v [] = refl
-cleared-none v (x ∷ t) = ap (λ u. x ∷ u) (cleared-none v t)
+cleared-none k v [] h = refl
+cleared-none zero v (x ∷ t) h = absurd (omega arith)
+cleared-none (suc k) v (x ∷ t) h = ap (λ u. x ∷ u) (cleared-none k v t (omega arith))
 
 pub cleared-all : (v : ℕ) (t : List ℕ) → clearedFrom 0 v t ≡ replicate (length t) v
 unfolding clearedFrom
@@ -35,6 +36,15 @@ cleared-get k v i [] h = refl
 cleared-get zero v i (x ∷ t) h = absurd (omega arith)
 cleared-get (suc k) v zero (x ∷ t) h = refl
 cleared-get (suc k) v (suc i) (x ∷ t) h = cleared-get k v i t (omega arith)
+
+-- and one from k on
+pub cleared-value : (k v i : ℕ) (t : List ℕ) → k ≤ i → i < length t → getD (clearedFrom k v t) i 0 ≡ v
+unfolding clearedFrom
+cleared-value k v i [] h g = absurd (omega arith)
+cleared-value zero v zero (x ∷ t) h g = refl
+cleared-value zero v (suc i) (x ∷ t) h g = cleared-value zero v i t (omega arith) (omega arith)
+cleared-value (suc k) v zero (x ∷ t) h g = absurd (omega arith)
+cleared-value (suc k) v (suc i) (x ∷ t) h g = cleared-value k v i t (omega arith) (omega arith)
 
 pub cleared-set : (k v i x : ℕ) (t : List ℕ) → i < k → clearedFrom k v (set t i x) ≡ set (clearedFrom k v t) i x
 unfolding clearedFrom
@@ -59,17 +69,15 @@ cleared-same (suc k) v (z ∷ t) = ap (λ u. z ∷ u) (cleared-same k v t)
 -- ---- a table that is cleared from its place k on, up to place i so far
 
 pub record Clears (k i v : ℕ) (d₀ d : List ℕ) : Type 0 where
-  pub most : i ≤ length d₀
   pub same : length d ≡ length d₀
   pub is : clearedFrom i v d ≡ clearedFrom k v d₀
 
-pub clears-none : (k v : ℕ) (d : List ℕ) → k ≤ length d → Clears k k v d d
-clears-none k v d h = record { most = h; same = refl; is = refl }
+pub clears-none : {k i v : ℕ} {d : List ℕ} → i ≡ k → Clears k i v d d
+clears-none e = record { same = refl; is = rw e }
 
-pub clears-more : {k i v : ℕ} {d₀ d : List ℕ} → Clears k i v d₀ d → i < length d₀ → Clears k (i + 1) v d₀ (set d i v)
-clears-more {k} {i} {v} {d₀} {d} c h = record { most = omega arith; same = length-set d i v ∙ c .same; is = rw (add-one i) (cleared-same i v d ∙ c .is) }
+pub clears-more : {k i v w : ℕ} {d₀ d : List ℕ} → Clears k i v d₀ d → w ≡ v → Clears k (i + 1) v d₀ (set d i w)
+clears-more {k} {i} {v} {w} {d₀} {d} c e =
+    record { same = length-set d i w ∙ c .same; is = rw (add-one i, e) (cleared-same i v d ∙ c .is) }
 
 pub clears-all : {k i v : ℕ} {d₀ d : List ℕ} → Clears k i v d₀ d → length d₀ ≤ i → d ≡ clearedFrom k v d₀
-clears-all {k} {i} {v} {d₀} {d} c h =
-    let z : i ≡ length d = omega (arith, c .most, c .same) in
-    sym (cleared-none v d) ∙ ap (λ j. clearedFrom j v d) (sym z) ∙ c .is
+clears-all {k} {i} {v} {d₀} {d} c h = sym (cleared-none i v d (omega (arith, c .same))) ∙ c .is

@@ -4,7 +4,7 @@ ghost use Rattle.suffix.specs.Ranks.{ranks};
 ghost use Rattle.build.specs.Built.{lent, figuresOf as builtFigures};
 ghost use Rattle.refusal.specs.Answers.{figuresOf};
 ghost use Rattle.questions.specs.Answers.{previousAnswer, nextAnswer, placeAnswer};
-ghost use Rattle.roots.specs.States.{lists};
+ghost use Rattle.runs.specs.States.{lists};
 ghost use Rattle.runs.specs.Reported.{workOf};
 ghost use Rattle.lyndon.specs.Replies.{interfaceVersion, BuildReplied, ReadReplied, RunsReplied, WriteReplied, buildReply, reply, wordReply, cabinetReply};
 use build::Built;

@@ -21,7 +21,7 @@ use Rattle.repeats.specs.Runs.{Run, runs}
 use Rattle.repeats.specs.Refusals.{Lists, workLengthOff, listLengthsDiffer, tooManyRuns, lengthsRefusal, runsRefusal}
 use Rattle.repeats.specs.Answers.{answer, listsOf, listsAfter, zeros}
 use Rattle.repeats.proofs.Laws.{refusalsLeave}
-use Rattle.runs.specs.States.{roomRefusal, Written}
+use Rattle.runs.specs.Lists.{roomRefusal, Written}
 use Rattle.runs.specs.Reported.{Reported}
 
 -- ---- 2

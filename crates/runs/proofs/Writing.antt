@@ -1,4 +1,4 @@
--- Tables and lists that are written entry by entry.
+-- The lists are written, or left; the work tables are cleared.
 use mathlib.Core.Path.{_≡_, refl, sym, ap, _∙_}
 use mathlib.Core.List.{List}
 use Prim.Native.Nat.{ℕ, zero, suc, _+_, _≤_, _<_}
@@ -15,42 +15,49 @@ use Rattle.refusal.specs.Numbers.{numberIf}
 use Rattle.refusal.specs.Answers.{value}
 use Rattle.refusal.proofs.Numbers.{unless-taken, unless-refused}
 use Rattle.refusal.proofs.Answers.{answered-value, answered-refused}
+use Rattle.entries.specs.Cleared.{clearedFrom}
+use Rattle.entries.proofs.Clearing.{cleared-length, cleared-alike, cleared-get, cleared-value}
 use Rattle.repeats.specs.Runs.{Run}
 use Rattle.repeats.specs.Refusals.{Lists}
 use Rattle.repeats.specs.Roots.{noRun}
 use Rattle.repeats.specs.Answers.{entryOf, listsOf}
-use Rattle.roots.specs.States.{lists, entryIn, entriesFrom, entries}
-use Rattle.roots.proofs.Inserting.{entries-length}
-use Rattle.runs.specs.States.{cutAt, roomRefusal, Written}
+use Rattle.runs.specs.States.{lists, entryIn, entriesFrom, entries}
+use Rattle.runs.proofs.Inserting.{entries-length}
+use Rattle.runs.specs.Lists.{cutAt, roomRefusal, Written}
 use Rattle.runs.specs.Reported.{workOf}
 
--- the first k entries of d, a list that was d₀, are those of g
-pub record Writes (g : ℕ → ℕ) (k : ℕ) (d₀ d : List ℕ) : Type 0 where
-  pub most : k ≤ length d₀
+-- the first k entries of d, a list that was d₀, are those of t
+pub record Copied (t : List ℕ) (k : ℕ) (d₀ d : List ℕ) : Type 0 where
   pub size : length d ≡ length d₀
-  pub are : (i : ℕ) → i < k → getD d i 0 ≡ g i
+  pub are : (i : ℕ) → i < k → getD d i 0 ≡ getD t i 0
 
-module _ (g : ℕ → ℕ) where
-  pub writes-none : (d : List ℕ) → Writes g 0 d d
-  writes-none d = record { most = omega arith; size = refl; are = λ i h. absurd (omega arith) }
+pub copied-none : (t d : List ℕ) → Copied t 0 d d
+copied-none t d = record { size = refl; are = λ i h. absurd (omega arith) }
 
-  pub writes-more : {k : ℕ} {d₀ d : List ℕ} → Writes g k d₀ d → k < length d₀ → {v : ℕ} → v ≡ g k → Writes g (k + 1) d₀ (set d k v)
-  writes-more {k} {d₀} {d} W h {v} e = record { most = omega arith; size = length-set d k v ∙ W .size; are = λ i w. go i w (same? i k) }
-    where
-      go : (i : ℕ) → i < k + 1 → Same i k → getD (set d k v) i 0 ≡ g i
-      go i w (same z) = rw z (getD-set-same d k v 0 (omega (arith, W .size)) ∙ e)
-      go i w (other z) = getD-set-other d k i v 0 z ∙ W .are i (omega arith)
+pub copied-more : {t : List ℕ} {k : ℕ} {d₀ d : List ℕ} → Copied t k d₀ d → k < length d₀ → {v : ℕ} → v ≡ getD t k 0 → Copied t (k + 1) d₀ (set d k v)
+copied-more {t} {k} {d₀} {d} C h {v} e = record { size = length-set d k v ∙ C .size; are = λ i w. go i w (same? i k) }
+  where
+    go : (i : ℕ) → i < k + 1 → Same i k → getD (set d k v) i 0 ≡ getD t i 0
+    go i w (same z) = rw z (getD-set-same d k v 0 (omega (arith, C .size)) ∙ e)
+    go i w (other z) = getD-set-other d k i v 0 z ∙ C .are i (omega arith)
 
-  pub writes-all : {k : ℕ} {d₀ d : List ℕ} → Writes g k d₀ d → length d₀ ≤ k → d ≡ tabulate (length d₀) g
-  writes-all {k} {d₀} {d} W h = tabulate-is g d (length d₀) (W .size) (λ i w. W .are i (omega arith))
-
-pub cut-in : (c : ℕ) (t : List ℕ) (k : ℕ) → k < c → getD t k 0 ≡ cutAt c t k
+cut-in : (c : ℕ) (t : List ℕ) (k : ℕ) → k < c → getD t k 0 ≡ cutAt c t k
 unfolding cutAt
 cut-in c t k h = rw (lt-ltb k c h, cutAt)
 
-pub cut-out : (c : ℕ) (t : List ℕ) (k : ℕ) → c ≤ k → {v : ℕ} → v ≡ 0 → v ≡ cutAt c t k
+cut-out : (c : ℕ) (t : List ℕ) (k : ℕ) → c ≤ k → 0 ≡ cutAt c t k
 unfolding cutAt
-cut-out c t k h e = e ∙ rw (le-ltb k c h, cutAt)
+cut-out c t k h = rw (le-ltb k c h, cutAt)
+
+-- c entries are copied, and the list is cleared behind them
+pub copied-all : {t : List ℕ} {c k i v : ℕ} {d₀ d e : List ℕ} → Copied t k d₀ d → c ≤ k → e ≡ clearedFrom i v d → i ≡ c → v ≡ 0 → e ≡ tabulate (length d₀) (cutAt c t)
+copied-all {t} {c} {k} {i} {v} {d₀} {d} {e} C h z p q =
+    z ∙ cleared-alike d p q ∙ tabulate-is (cutAt c t) (clearedFrom c 0 d) (length d₀) (cleared-length c 0 d ∙ C .size) (λ x w. go x w (tri x c))
+  where
+    go : (x : ℕ) → x < length d₀ → Tri x c → getD (clearedFrom c 0 d) x 0 ≡ cutAt c t x
+    go x w (lt g) = cleared-get c 0 x d g ∙ C .are x (omega arith) ∙ cut-in c t x g
+    go x w (eq g) = cleared-value c 0 x d (omega arith) (omega (arith, C .size)) ∙ cut-out c t x (omega arith)
+    go x w (gt g) = cleared-value c 0 x d (omega arith) (omega (arith, C .size)) ∙ cut-out c t x (omega arith)
 
 -- the first c entries, as lists of a size
 entry-in : (t : Lists) (i c k : ℕ) → k < c → getD (entriesFrom t i c) k noRun ≡ entryIn t (i + k)
@@ -71,8 +78,8 @@ module _ (t : Lists) (c : ℕ) (field : Run → ℕ) (none : field noRun ≡ 0) 
     where
       go : (k : ℕ) → Tri k c → cutAt c d k ≡ field (entryOf (entries t c) k)
       go k (lt h) = sym (cut-in c d k h) ∙ sym (is k) ∙ ap field (ap (entryIn t) (omega arith) ∙ sym (entry-in t 0 c k h))
-      go k (eq h) = sym (cut-out c d k (omega arith) refl) ∙ sym none ∙ ap field (sym (entry-out t 0 c k (omega arith)))
-      go k (gt h) = sym (cut-out c d k (omega arith) refl) ∙ sym none ∙ ap field (sym (entry-out t 0 c k (omega arith)))
+      go k (eq h) = sym (cut-out c d k (omega arith)) ∙ sym none ∙ ap field (sym (entry-out t 0 c k (omega arith)))
+      go k (gt h) = sym (cut-out c d k (omega arith)) ∙ sym none ∙ ap field (sym (entry-out t 0 c k (omega arith)))
 
 pub cut-lists : (t : Lists) (c size : ℕ) → lists (tabulate size (cutAt c (t .starts))) (tabulate size (cutAt c (t .ends))) (tabulate size (cutAt c (t .periods))) ≡ listsOf (entries t c) size
 unfolding listsOf

@@ -1,27 +1,73 @@
--- What the contracts of the private functions are written with.
+-- What the contracts of the private functions are written with: three tables as a list of runs.
 use mathlib.Core.Path.{_≡_}
-use mathlib.Core.Bool.{true, false}
-use mathlib.Core.List.{List}
-use Prim.Native.Nat.{ℕ}
+use mathlib.Core.Logic.{_⊎_}
+use mathlib.Core.Bool.{Bool, true, false, _&&_}
+use mathlib.Core.List.{List, [], _∷_}
+use Prim.Native.Nat.{ℕ, zero, suc, _+_, _-_, _≤_, _<_}
 use lib.Dec.{ltb}
-use lib.ListN.{length, getD}
-use Rattle.refusal.specs.declared.Answer.{Answer}
-use Rattle.refusal.specs.declared.Refusal.the-variants.{TooManyRuns}
-use Rattle.refusal.specs.Numbers.{numberIf, unlessRefused}
-use Rattle.refusal.specs.Answers.{figuresOf, answered}
+use lib.ListN.{length, getD, set}
+use Rattle.suffix.specs.Ranks.{oriented}
+use Rattle.suffix.specs.Search.{tabulate}
+use Rattle.suffix.specs.Nearest.{next, nextMatch}
 use Rattle.repeats.specs.Runs.{Run}
 use Rattle.repeats.specs.Refusals.{Lists}
-use Rattle.repeats.specs.Answers.{listsOf}
+use Rattle.repeats.specs.Claims.{Before}
+use Rattle.repeats.specs.Roots.{leftOf, accepts, before, put}
+use Rattle.runs.specs.declared.roots.Run as declared
 
--- the first c entries, and 0 from there on
-unfoldable pub cutAt : ℕ → List ℕ → ℕ → ℕ
-cutAt c t k = elim (ltb k c) [ true ↦ getD t k 0 | false ↦ 0 ]
+abbrev pub runOf : declared.Run → Run
+runOf r = record { start = r .start; end = r .end; period = r .period }
 
--- 13 for the runs l in lists of so many entries, or 0
-abbrev pub roomRefusal : List Run → ℕ → ℕ
-roomRefusal l size = numberIf (ltb size (length l)) TooManyRuns
+abbrev pub lists : List ℕ → List ℕ → List ℕ → Lists
+lists starts ends periods = record { starts = starts; ends = ends; periods = periods }
 
--- the runs l are written to the lists, unless they are too many
-pub record Written (l : List Run) (before after : Lists) (r : Answer) : Type 0 where
-  pub answers : figuresOf r ≡ answered (roomRefusal l (length (before .starts))) (length l)
-  pub leaves : after ≡ unlessRefused (roomRefusal l (length (before .starts))) (listsOf l (length (before .starts))) before
+-- entry k of three tables
+abbrev pub entryIn : Lists → ℕ → Run
+entryIn t k = record { start = getD (t .starts) k 0; end = getD (t .ends) k 0; period = getD (t .periods) k 0 }
+
+-- c entries from i on
+unfoldable pub entriesFrom : Lists → (i c : ℕ) → List Run
+entriesFrom t i zero = []
+entriesFrom t i (suc c) = entryIn t i ∷ entriesFrom t (suc i) c
+
+abbrev pub entries : Lists → ℕ → List Run
+entries t c = entriesFrom t 0 c
+
+abbrev pub stored : Lists → ℕ → Run → Lists
+stored t k r = record { starts = set (t .starts) k (r .start); ends = set (t .ends) k (r .end); periods = set (t .periods) k (r .period) }
+
+-- each of the three has an entry k
+pub record Has (t : Lists) (k : ℕ) : Type 0 where
+  pub starts : k < length (t .starts)
+  pub ends : k < length (t .ends)
+  pub periods : k < length (t .periods)
+
+-- r comes before the entry that is before place j
+unfoldable pub passes : Lists → ℕ → Run → Bool
+passes t j r = ltb 0 j && before r (entryIn t (j - 1))
+
+-- a place i with next j and next-match m, in a string of n letters
+pub record Within (n i j m : ℕ) : Type 0 where
+  pub after : i < j
+  pub fits : j + m ≤ n
+
+-- the left part where a run is reported, or 0
+pub record Judged (y : List ℕ) (reverse : Bool) (i j m r : ℕ) : Type 0 where
+  pub room : r ≤ i
+  pub yes : 0 < r → (accepts y reverse i j m ≡ true) × (r ≡ leftOf y i j)
+  pub no-run : r ≡ 0 → accepts y reverse i j m ≡ false
+
+-- the first c entries are in order, and r, which is not among them, has a place there
+pub record Insertable (t : Lists) (c : ℕ) (r : Run) : Type 0 where
+  pub ordered : (i k : ℕ) → i < k → k < c → Before (entryIn t i) (entryIn t k)
+  pub fresh : (k : ℕ) → k < c → Before r (entryIn t k) ⊎ Before (entryIn t k) r
+
+-- r is put into the first c entries, which are then d, and the periods behind them are as they were
+pub record Put (c : ℕ) (r : Run) (was is : Lists) (d : ℕ) : Type 0 where
+  pub holds : entries is d ≡ put r (entries was c)
+  pub keeps : (k : ℕ) → c < k → getD (is .periods) k 0 ≡ getD (was .periods) k 0
+
+-- next and next-match of the ranks y, in their order or in its reverse
+pub record Tabled (y : List ℕ) (reverse : Bool) (nexts matches : List ℕ) : Type 0 where
+  pub next : nexts ≡ tabulate (length y) (next (oriented reverse y))
+  pub match : matches ≡ tabulate (length y) (nextMatch (oriented reverse y))

@@ -8,35 +8,28 @@ ghost use Rattle.suffix.specs.Ranks.{ranks};
 ghost use Rattle.refusal.specs.Numbers.{verdictNumber};
 ghost use Rattle.repeats.specs.Refusals.{workLengthOff, lengthsRefusal};
 ghost use Rattle.repeats.specs.Answers.{zeros};
-ghost use Rattle.roots.specs.States.{lists, entries};
-ghost use Rattle.runs.specs.States.{cutAt, Written};
+ghost use Rattle.runs.specs.States.{lists, entries};
+ghost use Rattle.runs.specs.Lists.{cutAt, Written};
 ghost use Rattle.runs.specs.Reported.{workOf, Reported};
 use entries::clear_from;
 use refusal::Answer;
 use refusal::Refusal;
 use refusal::Verdict;
+use roots::gather_all;
 
-// Entry k of the first `count`, or 0.
-fn entry(table: &[u32], count: usize, k: usize) -> u32
-    requires { ⌜ count ≤ length (now table) ⌝ }
-    ensures { λ r. ⌜ r ≡ cutAt count (now (table .entry)) k ⌝ }
-{
-    if k < count {
-        return table[k];
-    }
-    0
-}
+mod roots;
 
 // Fills a list with the first `count` entries of a table, and 0 beyond.
 fn copy(table: &[u32], count: usize, list: &mut [u32])
-    requires { ⌜ count ≤ length (now table) ⌝ }
+    requires { ⌜ (count ≤ length (now table)) × (count ≤ length (now list)) ⌝ }
     ensures { λ _. ⌜ now (list .exit) ≡ tabulate (length (now (list .entry))) (cutAt count (now (table .entry))) ⌝ }
 {
     let mut k = 0;
-    while k < list.len() {
-        list[k] = entry(table, count, k);
+    while k < count {
+        list[k] = table[k];
         k += 1;
     }
+    clear_from(list, count, 0);
 }
 
 fn any_off(n: usize, a: usize, b: usize, c: usize, d: usize, e: usize, f: usize) -> bool
@@ -186,7 +179,7 @@ pub fn report(
     if let Verdict::Refused(refusal) = verdict {
         return Answer::NoValue(refusal);
     }
-    let count = roots::gather_all(
+    let count = gather_all(
         letters,
         previous,
         next,

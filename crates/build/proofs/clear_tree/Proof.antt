@@ -16,5 +16,5 @@ abbrev μ-loop : tie.MeasureT-loop
 pub clear-tree-spec : {M : Type 1} → statement M
 clear-tree-spec =
     tie.close
-    (tie.spec Inv-loop μ-loop (λ c. clears-none 0 0 _ (omega arith)) (λ c. omega arith) (λ c. omega arith) (λ c. omega arith) (λ c. clears-more (c .before .loop .inv) (omega arith))
+    (tie.spec Inv-loop μ-loop (λ c. clears-none (omega arith)) (λ c. omega arith) (λ c. omega arith) (λ c. omega arith) (λ c. clears-more (c .before .loop .inv) (omega arith))
     (λ c. c .before .loop .inv .same) (λ c. clears-all (c .before .loop .inv) (omega arith) ∙ cleared-all 0 _))

@@ -7,13 +7,13 @@ use Rattle.entries.proofs.clear_from.Statement.{statement}
 use Rattle.entries.proofs.clear_from.Tie as tie
 
 abbrev Inv-loop : tie.InvT-loop
-Inv-loop table₀ from value entry i₀ table i = Clears from i value table₀ table
+Inv-loop table₀ from value i₀ table i = Clears from i value table₀ table
 
 abbrev μ-loop : tie.MeasureT-loop
-μ-loop table₀ from value entry i₀ table i = length table₀ - i
+μ-loop table₀ from value i₀ table i = length table₀ - i
 
 pub clear-from-spec : {M : Type 1} → statement M
 clear-from-spec =
     tie.close
-    (tie.spec Inv-loop μ-loop (λ c. omega arith) (λ c. clears-none _ _ _ (omega arith)) (λ c. omega arith) (λ c. omega arith) (λ c. omega arith) (λ c. omega arith)
-    (λ c. clears-more (c .before .loop .inv) (omega arith)) (λ c. c .before .loop .inv .same) (λ c. clears-all (c .before .loop .inv) (omega arith)))
+    (tie.spec Inv-loop μ-loop (λ c. clears-none (omega arith)) (λ c. omega arith) (λ c. omega arith) (λ c. omega arith) (λ c. omega arith) (λ c. clears-more (c .before .loop .inv) (omega arith))
+    (λ c. c .before .loop .inv .same) (λ c. clears-all (c .before .loop .inv) (omega arith)))

@@ -20,12 +20,12 @@ pub clear-all-spec : {M : Type 1} → statement M
 clear-all-spec =
     tie.close
     (tie.spec
-    (λ c κs. (omega arith, omega arith))
-    (λ c κs. (omega arith, omega arith))
-    (λ c κs. (omega arith, omega arith))
-    (λ c κs. (omega arith, omega arith))
-    (λ c κs. (omega arith, omega arith))
-    (λ c κs. (omega arith, omega arith))
+    (λ c κs. tt)
+    (λ c κs. tt)
+    (λ c κs. tt)
+    (λ c κs. tt)
+    (λ c κs. tt)
+    (λ c κs. tt)
     (λ c. c .before .before .before .before .before .before .before .before .before .before .before .before .before .before .before .before .before .before .before .before .before .previous .given)
     (λ c. c .before .before .before .before .before .before .before .before .before .before .before .before .before .before .before .before .before .next .given)
     (λ c. c .before .before .before .before .before .before .before .before .before .before .before .before .before .previous-match .given)

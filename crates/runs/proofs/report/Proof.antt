@@ -11,8 +11,8 @@ use Rattle.refusal.specs.Numbers.{verdictNumber}
 use Rattle.repeats.specs.Runs.{runs}
 use Rattle.repeats.specs.Refusals.{Lists, lengthsRefusal}
 use Rattle.repeats.proofs.Gathering.{runs-most}
-use Rattle.roots.specs.States.{lists, entries}
-use Rattle.roots.proofs.Inserting.{entries-length}
+use Rattle.runs.specs.States.{lists, entries}
+use Rattle.runs.proofs.Inserting.{entries-length}
 use Rattle.runs.specs.Reported.{workOf}
 use Rattle.runs.proofs.Writing.{cleared-six}
 use Rattle.runs.proofs.Refusing.{Fitting, fitting, refused-by-lengths, reported}

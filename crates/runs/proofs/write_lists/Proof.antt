@@ -1,7 +1,7 @@
 -- `runs::write_lists` meets its contract.
 use native.Mathlib.Omega.{arith}
 use Rattle.repeats.specs.Refusals.{Lists}
-use Rattle.roots.specs.States.{lists}
+use Rattle.runs.specs.States.{lists}
 use Rattle.runs.proofs.Writing.{left, written}
 use Rattle.runs.proofs.write_lists.Statement.{statement}
 use Rattle.runs.proofs.write_lists.Tie as tie
@@ -26,9 +26,9 @@ pub write-lists-spec : {M : Type 1} → statement M
 write-lists-spec =
     tie.close
     (tie.spec returns
-    (λ c κs. c .before .before .before .before .before .before .before .before .pre .0 .0)
-    (λ c κs. c .before .before .before .before .before .before .before .before .before .before .before .before .pre .0 .1)
-    (λ c κs. c .before .before .before .before .before .before .before .before .before .before .before .before .before .before .before .before .pre .0 .2)
+    (λ c κs. let s = c .before .before .before .before .before .before .before .before in (s .pre .0 .0, omega arith))
+    (λ c κs. let s = c .before .before .before .before .before .before .before .before .before .before .before .before in (s .pre .0 .1, omega arith))
+    (λ c κs. let s = c .before .before .before .before .before .before .before .before .before .before .before .before .before .before .before .before in (s .pre .0 .2, omega arith))
     (λ c. c .before .before .before .before .before .before .before .before .before .starts .given)
     (λ c. c .before .before .before .before .before .ends .given)
     (λ c. c .before .periods .given)

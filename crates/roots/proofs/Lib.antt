@@ -1,4 +1,0 @@
-pub mod Scanning
-pub mod Judging
-pub mod Inserting
-pub mod Gathering

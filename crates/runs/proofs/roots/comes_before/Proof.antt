@@ -1,0 +1,13 @@
+-- `runs::roots::comes_before` meets its contract.
+use Rattle.runs.proofs.Inserting.{before-same, before-other}
+use Rattle.runs.proofs.roots.comes_before.Statement.{statement}
+use Rattle.runs.proofs.roots.comes_before.Tie as tie
+
+returns : tie.Need-returns
+returns c = before-same _ _ (c .before .before .if1 .taken)
+
+returns-2 : tie.Need-returns-2
+returns-2 c = before-other _ _ (c .before .before .if1 .left)
+
+pub comes-before-spec : {M : Type 1} → statement M
+comes-before-spec = tie.close (tie.spec returns returns-2)
