@@ -1,5 +1,5 @@
-//! A plain Rust build by the same reuse steps, and the longest Lyndon word, usable at 1,000,000
-//! letters. The benchmark compares the library with this code.
+//! A plain Rust build by the same reuse steps, in either order, and the longest Lyndon word, usable at
+//! 1,000,000 letters. The benchmark compares the library with this code.
 
 use crate::{refusals, Figures, Structure, Tables};
 
@@ -15,13 +15,19 @@ struct Window {
 impl Window {
     /// Compares the suffixes at `l` and `r` from their letter `m` on. Returns their match, and whether
     /// the suffix at `l` is the smaller.
-    fn scan(&mut self, letters: &[u8], l: usize, r: usize, mut m: usize) -> (usize, bool) {
+    fn scan<const REVERSED: bool>(
+        &mut self,
+        letters: &[u8],
+        l: usize,
+        r: usize,
+        mut m: usize,
+    ) -> (usize, bool) {
         let mut left_is_smaller = false;
         while r + m < letters.len() {
             let (left, right) = (letters[l + m], letters[r + m]);
             if left != right {
                 self.unequal += 1;
-                left_is_smaller = left < right;
+                left_is_smaller = (left < right) != REVERSED;
                 break;
             }
             self.equal += 1;
@@ -33,31 +39,23 @@ impl Window {
     }
 }
 
-/// Builds the first `rows` rows into lent memory, or returns the number of a refusal.
-pub fn build(
+/// The first `rows` rows, in the order of the letters or in its reverse. `open` is called with the bit
+/// place of each row's opening.
+fn settle_rows<const REVERSED: bool>(
     letters: &[u8],
     rows: usize,
     previous: &mut [u32],
     next: &mut [u32],
     previous_match: &mut [u32],
     next_match: &mut [u32],
-    tree: &mut [u8],
-) -> Result<Figures, u32> {
+    mut open: impl FnMut(usize),
+) -> Window {
     let n = letters.len();
-    let lengths = [
-        previous.len(),
-        next.len(),
-        previous_match.len(),
-        next_match.len(),
-    ];
-    refusals::first(&refusals::of_build(n, lengths, tree.len(), rows))?;
-
     // The lengths are known from here on, which saves tests of indices.
     let (previous, next) = (&mut previous[..n], &mut next[..n]);
     let (previous_match, next_match) = (&mut previous_match[..n], &mut next_match[..n]);
 
     let none = n as u32;
-    tree.fill(0);
     let mut bit = 0;
     let mut window = Window {
         reach: rows.min(1),
@@ -88,7 +86,7 @@ pub fn build(
                 }
                 let (matched, left_is_smaller) = match settled {
                     Some(settled) => settled,
-                    None => window.scan(letters, l, r, m),
+                    None => window.scan::<REVERSED>(letters, l, r, m),
                 };
                 m = matched;
                 if left_is_smaller {
@@ -117,9 +115,63 @@ pub fn build(
         previous_match[r] = matched;
         next[r] = none;
         next_match[r] = 0;
-        tree[bit / 8] |= 1 << (bit % 8);
+        open(bit);
         bit += 1;
     }
+    window
+}
+
+/// The four tables of all letters, in the order of the letters or in its reverse, over tables of n
+/// entries each.
+pub fn tables<const REVERSED: bool>(
+    letters: &[u8],
+    previous: &mut [u32],
+    next: &mut [u32],
+    previous_match: &mut [u32],
+    next_match: &mut [u32],
+) {
+    let rows = letters.len();
+    settle_rows::<REVERSED>(
+        letters,
+        rows,
+        previous,
+        next,
+        previous_match,
+        next_match,
+        |_| (),
+    );
+}
+
+/// Builds the first `rows` rows into lent memory, or returns the number of a refusal.
+pub fn build(
+    letters: &[u8],
+    rows: usize,
+    previous: &mut [u32],
+    next: &mut [u32],
+    previous_match: &mut [u32],
+    next_match: &mut [u32],
+    tree: &mut [u8],
+) -> Result<Figures, u32> {
+    let n = letters.len();
+    let lengths = [
+        previous.len(),
+        next.len(),
+        previous_match.len(),
+        next_match.len(),
+    ];
+    refusals::first(&refusals::of_build(n, lengths, tree.len(), rows))?;
+
+    tree.fill(0);
+    let window = settle_rows::<false>(
+        letters,
+        rows,
+        previous,
+        next,
+        previous_match,
+        next_match,
+        |bit| tree[bit / 8] |= 1 << (bit % 8),
+    );
+    let none = n as u32;
     previous[rows..].fill(none);
     next[rows..].fill(none);
     previous_match[rows..].fill(0);

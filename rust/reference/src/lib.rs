@@ -1,13 +1,14 @@
 //! A plain Rust reference for the Lyndon structure of a string. It is written from the definitions of
-//! document 01, and of document 02 for the cabinet and the two counts of comparisons, and shares no code
-//! with the library that it is compared with.
+//! document 01, and of document 02 for the cabinet, the two counts of comparisons and the runs, and
+//! shares no code with the library that it is compared with.
 //!
 //! - [`definitions`]: suffixes, tables, tree, reach and Lyndon words, each as defined;
 //! - [`steps`]: the reuse steps 1 to 4, which define the two counts of comparisons;
 //! - [`brackets`]: a tree judged, read and questioned bit by bit;
 //! - [`refusals`]: which refusals apply to an operation's input;
 //! - [`cabinet`]: a file of many trees, written and read;
-//! - [`fast`] and [`fast_brackets`]: the same answers, usable at 1,000,000 letters;
+//! - [`runs`]: the runs of a string, as defined and period by period;
+//! - [`fast`], [`fast_brackets`] and [`fast_runs`]: the same answers, usable at 1,000,000 letters;
 //! - [`samples`]: random numbers, strings and trees for tests.
 
 #![warn(missing_docs)]
@@ -17,7 +18,9 @@ pub mod cabinet;
 pub mod definitions;
 pub mod fast;
 pub mod fast_brackets;
+pub mod fast_runs;
 pub mod refusals;
+pub mod runs;
 pub mod samples;
 pub mod steps;
 

@@ -67,3 +67,14 @@ pub fn of_question(n: usize, tree: &[u8], position: usize) -> Vec<u32> {
 pub fn of_word(n: usize, position: usize) -> Vec<u32> {
     applying([(1, too_long(n)), (5, position >= n)])
 }
+
+/// Runs: 1, 2, 12, 13. The lists are the starts, the ends and the periods; `runs` is the number of runs,
+/// of which a list has too few entries for 13.
+pub fn of_runs(n: usize, work: [usize; 6], lists: [usize; 3], runs: usize) -> Vec<u32> {
+    applying([
+        (1, too_long(n)),
+        (2, table_length(n, &work)),
+        (12, lists.iter().any(|&length| length != lists[0])),
+        (13, lists.iter().any(|&length| length < runs)),
+    ])
+}

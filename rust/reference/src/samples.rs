@@ -61,6 +61,50 @@ pub fn thue_morse(n: usize) -> Vec<u8> {
     (0..n).map(|i| b'a' + (i.count_ones() % 2) as u8).collect()
 }
 
+/// The first `n` letters of the period-doubling word abaaabab...
+pub fn period_doubling(n: usize) -> Vec<u8> {
+    let letter = |i: usize| b'a' + (i.trailing_zeros() % 2) as u8;
+    (1..=n).map(letter).collect()
+}
+
+/// The first `n` letters of abacabad..., in which the letter at i tells how often 2 divides i + 1.
+pub fn ruler(n: usize) -> Vec<u8> {
+    (1..=n).map(|i| b'a' + i.trailing_zeros() as u8).collect()
+}
+
+/// The first `n` letters of the words a, aab, aabaabb and so on, each of which is the one before twice and
+/// then b.
+pub fn squares(n: usize) -> Vec<u8> {
+    let mut word = b"a".to_vec();
+    while word.len() < n {
+        word = [&word[..], &word, b"b"].concat();
+    }
+    word.truncate(n);
+    word
+}
+
+/// `n` random letters of 256 with random words in them, each repeated at once; and of each of these
+/// stretches its start, its end and the length of its word. A word has the letter 0 once, so that it is no
+/// repeat itself.
+pub fn planted(random: &mut Random, n: usize) -> (Vec<u8>, Vec<[usize; 3]>) {
+    let mut letters = random_string(random, n, 256);
+    let mut stretches = Vec::new();
+    let mut free = 0;
+    loop {
+        let period = 1 + random.below(200);
+        let start = free + random.below(1000);
+        let end = start + 2 * period + random.below(3 * period);
+        if end > n {
+            return (letters, stretches);
+        }
+        let mut word: Vec<u8> = (0..period).map(|_| 1 + random.below(255) as u8).collect();
+        word[0] = 0;
+        letters[start..end].copy_from_slice(&repeated(&word, end - start));
+        stretches.push([start, end, period]);
+        free = end;
+    }
+}
+
 /// Named strings of `n` letters of different kinds.
 pub fn kinds(random: &mut Random, n: usize) -> Vec<(&'static str, Vec<u8>)> {
     let word = random_string(random, 1000, 4);
@@ -122,9 +166,23 @@ mod tests {
         assert_eq!(fibonacci(13), b"abaababaabaab");
         assert_eq!(fibonacci(1), b"a");
         assert_eq!(thue_morse(8), b"abbabaab");
+        assert_eq!(period_doubling(8), b"abaaabab");
+        assert_eq!(ruler(9), b"abacabada");
+        assert_eq!(squares(9), b"aabaabbaa");
         assert_eq!(one_root_over_leaves(1), [0b01]);
         assert_eq!(one_root_over_leaves(4), [0b0010_1011]);
         assert_eq!(one_root_over_leaves(5), [0b1010_1011, 0b00]);
+    }
+
+    #[test]
+    fn planted_stretches_repeat() {
+        let (letters, stretches) = planted(&mut Random::new(1), 5_000);
+        assert!(stretches.len() > 1, "some are planted");
+        for [start, end, period] in stretches {
+            assert!(end - start >= 2 * period);
+            let stretch = &letters[start..end];
+            assert_eq!(stretch[period..], stretch[..end - start - period]);
+        }
     }
 
     #[test]
