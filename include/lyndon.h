@@ -1,4 +1,4 @@
-/* The Lyndon structure of a string: nearest smaller suffixes, their matches, and the bracket tree.
+/* The Lyndon structure of a string: nearest smaller suffixes, their matches, and the bracket tree; and all its runs.
  *
  * A string has n letters of one byte each, n from 0 to 1,000,000. Letters compare by their unsigned value. A proper prefix is
  * smaller than the longer string. Positions count from 0. 'None' is written n.
@@ -17,6 +17,10 @@
  * compared only where a match cannot be copied from one that an earlier row recorded. docs/STEPS.md of the repository has them
  * step by step.
  *
+ * A run is a start, an end (exclusive) and a period p >= 1, with length at least 2 * p. Letters p apart inside it are equal, p is
+ * its least period, and neither end can be moved out by one letter with p kept. Runs may overlap, and one may lie inside another. A
+ * string of n >= 1 letters has fewer than n runs. banana has one, its part anana: start 1, end 6, period 2.
+ *
  * A cabinet is a file of many trees. Each number in it has 32 bits, the lowest byte first:
  *
  *   the four bytes LYN1
@@ -26,7 +30,8 @@
  *
  * Refusals. No caller has to test anything first: each function takes every value of every number and every length, and answers
  * with a refusal where the rules ask for one, else with 0. Where several apply, the lowest number is returned, except by the
- * two functions of a cabinet, which test in the order given at each. A refusal writes nothing to the lent memory.
+ * two functions of a cabinet, which test in the order given at each. A refusal writes nothing to the lent memory, but for 13, which
+ * clears the work tables of lyndon_runs and leaves all else.
  *
  * Memory. Each list passes as a pointer and then its length in entries. What nothing can test, and a caller must see to:
  *   - a pointer points to so many entries, aligned as their type asks;
@@ -54,7 +59,7 @@ extern "C" {
 /* The version of this header: it rises with every change of a structure or a function, of what it answers too. A program whose
  * LYNDON_VERSION is not what lyndon_version() returns was compiled against another header than the archive's, and is to be compiled
  * again. */
-#define LYNDON_VERSION 1
+#define LYNDON_VERSION 2
 
 /* The version of the archive. */
 uint32_t lyndon_version(void);
@@ -72,20 +77,22 @@ uint32_t lyndon_version(void);
 /* The refusals. */
 typedef enum LyndonRefusal {
     LYNDON_NOT_REFUSED = 0,
-    LYNDON_TOO_LONG = 1,           /* n above 1,000,000; writing a cabinet: a letter count above 1,000,000 */
-    LYNDON_WRONG_TABLE_LENGTH = 2, /* a lent table not exactly n entries long */
-    LYNDON_WRONG_TREE_LENGTH = 3,  /* the tree not exactly ceil(n / 4) bytes; writing a cabinet: the trees or the buffer not as
-                                      many bytes as the counts ask for */
-    LYNDON_TOO_MANY_ROWS = 4,      /* more rows asked than n */
-    LYNDON_POSITION_OUTSIDE = 5,   /* a position not below n; reading a cabinet: an entry not below the number of entries */
-    LYNDON_SPARE_BIT_SET = 6,      /* a spare bit of the tree is 1 */
-    LYNDON_CLOSED_TOO_EARLY = 7,   /* some first bits of the 2n hold more closings than openings */
-    LYNDON_LEFT_OPEN = 8,          /* no such place, but not all brackets are closed */
-    LYNDON_NOT_MARKED = 9,         /* a cabinet file under 8 bytes or with another mark than LYN1 */
-    LYNDON_TOO_MANY_ENTRIES = 10,  /* a cabinet with more than 64 entries */
-    LYNDON_WRONG_CONTENTS = 11     /* a cabinet file whose contents are cut short, with a place that is not the end of what comes
-                                      before it, with bytes missing or left over at the end, or with a letter count above
-                                      1,000,000 */
+    LYNDON_TOO_LONG = 1,              /* n above 1,000,000; writing a cabinet: a letter count above 1,000,000 */
+    LYNDON_WRONG_TABLE_LENGTH = 2,    /* a lent table not exactly n entries long */
+    LYNDON_WRONG_TREE_LENGTH = 3,     /* the tree not exactly ceil(n / 4) bytes; writing a cabinet: the trees or the buffer not as
+                                         many bytes as the counts ask for */
+    LYNDON_TOO_MANY_ROWS = 4,         /* more rows asked than n */
+    LYNDON_POSITION_OUTSIDE = 5,      /* a position not below n; reading a cabinet: an entry not below the number of entries */
+    LYNDON_SPARE_BIT_SET = 6,         /* a spare bit of the tree is 1 */
+    LYNDON_CLOSED_TOO_EARLY = 7,      /* some first bits of the 2n hold more closings than openings */
+    LYNDON_LEFT_OPEN = 8,             /* no such place, but not all brackets are closed */
+    LYNDON_NOT_MARKED = 9,            /* a cabinet file under 8 bytes or with another mark than LYN1 */
+    LYNDON_TOO_MANY_ENTRIES = 10,     /* a cabinet with more than 64 entries */
+    LYNDON_WRONG_CONTENTS = 11,       /* a cabinet file whose contents are cut short, with a place that is not the end of what
+                                         comes before it, with bytes missing or left over at the end, or with a letter count above
+                                         1,000,000 */
+    LYNDON_UNEQUAL_LIST_LENGTHS = 12, /* the three lists for runs differ in length */
+    LYNDON_TOO_MANY_RUNS = 13         /* more runs than entries in each of the three lists */
 } LyndonRefusal;
 
 /* The answer of lyndon_build. Where it is refused, every member but `refusal` is 0. */
@@ -100,10 +107,10 @@ typedef struct LyndonBuildReply {
                           0 where rows = 0; never above n */
 } LyndonBuildReply;
 
-/* The answer to a question put to a tree. */
+/* The answer to a question put to a tree, and that of lyndon_runs. */
 typedef struct LyndonReply {
-    uint32_t refusal; /* 0, or 1, 3, 5, 6, 7, 8 */
-    size_t value;     /* the answer; 0 where refused */
+    uint32_t refusal; /* 0, or of a question 1, 3, 5, 6, 7, 8, of lyndon_runs 1, 2, 12, 13 */
+    size_t value;     /* the answer, of lyndon_runs the number of runs; 0 where refused */
 } LyndonReply;
 
 /* A part of the caller's string. */
@@ -163,6 +170,27 @@ LyndonReply lyndon_place(size_t n, const uint8_t *tree, size_t tree_length, size
  * n is letters_length.
  * Refusals: 1, 5; the part is then the empty one at the string's start. Memory: nothing is written. */
 LyndonPartReply lyndon_word(const uint8_t *letters, size_t letters_length, size_t position);
+
+/* Reports every run of `letters` once, by start and then by period: run k, from 0, has its start in starts[k], its end in ends[k]
+ * and its period in periods[k]. The value is the number of runs. n is letters_length.
+ *
+ * The three lists have any one length. n - 1 entries are enough for every string of n >= 1 letters: 13 occurs with shorter lists
+ * only. The six work tables have n entries each, and may hold anything before.
+ *
+ * Refusals, in the order in which they are tested: 1, 2 (for any of the six work tables), 12, 13 (exactly where there are more runs
+ * than entries).
+ * Memory: a refusal leaves the three lists as they were. Otherwise every entry of them is written, those beyond the number of runs
+ * with 0. The six work tables hold 0 afterwards, also after 13; the refusals 1, 2 and 12 leave them as they were. */
+LyndonReply lyndon_runs(const uint8_t *letters, size_t letters_length,
+                        uint32_t *starts, size_t starts_length,
+                        uint32_t *ends, size_t ends_length,
+                        uint32_t *periods, size_t periods_length,
+                        uint32_t *work_1, size_t work_1_length,
+                        uint32_t *work_2, size_t work_2_length,
+                        uint32_t *work_3, size_t work_3_length,
+                        uint32_t *work_4, size_t work_4_length,
+                        uint32_t *work_5, size_t work_5_length,
+                        uint32_t *work_6, size_t work_6_length);
 
 /* Writes the cabinet file of the trees with the letter counts `counts`. `trees` holds them end to end. `file` has exactly the
  * file's length: 8 bytes, and for each count n 8 and ceil(n / 4) bytes. Returns the refusal, or 0.

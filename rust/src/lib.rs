@@ -1,9 +1,11 @@
 //! The Lyndon structure of a string: for each position the nearest smaller suffix before and after
 //! it, the letters they share, and the bracket tree of the previous smaller suffixes. Many trees fit in
-//! one cabinet file, written by [`cabinet_write`] and read by [`cabinet_read`].
+//! one cabinet file, written by [`cabinet_write`] and read by [`cabinet_read`]. [`runs()`] gives all tandem
+//! repeats.
 //!
 //! This is a safe wrapper of `liblyndon.a`. Nothing has to be tested before a call: every input is
-//! answered, by a value or by a [`Refusal`], and a refusal writes nothing to the lent memory.
+//! answered, by a value or by a [`Refusal`], and a refusal writes nothing to the lent memory, but for
+//! [`Refusal::TooManyRuns`], which clears the work memory of [`runs_into`].
 //!
 //! A string has at most [`MAX_LETTERS`] letters of one byte, which compare by their unsigned value. A
 //! proper prefix is smaller than the longer string. Positions count from 0. 'None' is written n, the
@@ -31,6 +33,7 @@
 //! assert_eq!(lyndon::next(6, &banana.tree, 1)?, 3);
 //!
 //! assert_eq!(lyndon::longest_word(b"banana", 1)?, b"an");
+//! assert_eq!(lyndon::runs(b"banana")?, [lyndon::Run { start: 1, end: 6, period: 2 }]);
 //! # Ok::<(), lyndon::Refusal>(())
 //! ```
 
@@ -67,7 +70,8 @@ pub enum Refusal {
     /// 1: n above 1,000,000. Writing a cabinet: a letter count above 1,000,000.
     TooLong = 1,
     /// 2: a lent table not exactly n entries of 32 bits long (four tables for the build, previous and
-    /// next for reading a tree).
+    /// next for reading a tree, six work tables for the runs). [`runs_into`]: work memory of fewer
+    /// than [`runs_work_length`]`(n)` entries.
     TableLength = 2,
     /// 3: the tree not exactly ceil(n/4) bytes. Writing a cabinet: the trees or the buffer not exactly
     /// as many bytes as the letter counts ask for.
@@ -89,11 +93,15 @@ pub enum Refusal {
     /// 11: a cabinet file whose contents are cut short, with a place that is not the end of what comes
     /// before it, with bytes missing or left over at the end, or with a letter count above 1,000,000.
     WrongContents = 11,
+    /// 12: the three lists for runs differ in length.
+    ListLengths = 12,
+    /// 13: more runs than entries in each of the three lists.
+    TooManyRuns = 13,
 }
 
 impl Refusal {
     /// All refusals, by their numbers.
-    pub const ALL: [Refusal; 11] = [
+    pub const ALL: [Refusal; 13] = [
         Refusal::TooLong,
         Refusal::TableLength,
         Refusal::TreeLength,
@@ -105,9 +113,11 @@ impl Refusal {
         Refusal::NotMarked,
         Refusal::TooManyEntries,
         Refusal::WrongContents,
+        Refusal::ListLengths,
+        Refusal::TooManyRuns,
     ];
 
-    /// The refusal's number, 1 to 11.
+    /// The refusal's number, 1 to 13.
     pub fn number(self) -> u32 {
         self as u32
     }
@@ -128,7 +138,10 @@ impl fmt::Display for Refusal {
     fn fmt(&self, f: &mut fmt::Formatter<'_>) -> fmt::Result {
         let text = match self {
             Refusal::TooLong => "more than 1,000,000 letters",
-            Refusal::TableLength => "a lent table is not exactly n entries long",
+            Refusal::TableLength => {
+                "a lent table is not exactly n entries long, \
+                or the work memory for runs has fewer than 6 n entries"
+            }
             Refusal::TreeLength => {
                 "the tree is not exactly ceil(n/4) bytes long, \
                 or a cabinet's trees or buffer have another length than its letter counts ask for"
@@ -146,6 +159,8 @@ impl fmt::Display for Refusal {
                 "the file's contents are cut short, do not fit its length or each other, \
                 or hold a letter count above 1,000,000"
             }
+            Refusal::ListLengths => "the three lists for runs differ in length",
+            Refusal::TooManyRuns => "more runs than entries in the lists",
         };
         write!(f, "refused {}: {text}", self.number())
     }
@@ -171,6 +186,16 @@ pub struct Built {
     /// previous\[r\] = l, never above n; 0 where no rows are asked. match(l, r) is the number of
     /// leading letters that the suffixes at l and r share.
     pub reach: usize,
+}
+
+/// The number of letters that memory is taken for. Too many letters are refused whatever is lent, so
+/// none is taken for them.
+fn lent_entries(letters: &[u8]) -> usize {
+    if letters.len() > MAX_LETTERS {
+        0
+    } else {
+        letters.len()
+    }
 }
 
 /// The length in bytes of the tree of `n` positions: ceil(n/4).
@@ -285,6 +310,106 @@ pub fn longest_word(letters: &[u8], position: usize) -> Result<&[u8], Refusal> {
     Refusal::check(reply.refusal).map(|()| &letters[reply.start..][..reply.length])
 }
 
+/// A run, or tandem repeat: a stretch of a string from `start` to `end` with the period p of `period`. It
+/// has at least 2 p letters, those p apart in it are equal, p is its least period, and neither end can be
+/// moved out by one letter with p kept.
+#[derive(Debug, Clone, Copy, PartialEq, Eq, Hash)]
+pub struct Run {
+    /// The position of its first letter.
+    pub start: usize,
+    /// The position behind its last letter.
+    pub end: usize,
+    /// Its least period, at least 1.
+    pub period: usize,
+}
+
+/// All runs of `letters`, each once, by start and then by period. A string of n letters, n at least 1,
+/// has fewer than n.
+///
+/// ```
+/// let word = b"mississippi";
+/// let runs = lyndon::runs(word)?;
+/// let stretches: Vec<&[u8]> = runs.iter().map(|run| &word[run.start..run.end]).collect();
+/// assert_eq!(stretches, [&b"ississi"[..], b"ss", b"ss", b"pp"]);
+/// assert_eq!(runs[0], lyndon::Run { start: 1, end: 8, period: 3 });
+/// # Ok::<(), lyndon::Refusal>(())
+/// ```
+///
+/// This takes memory for 9 n numbers of 32 bits and gives it back before it returns; whoever asks often
+/// lends it once by [`runs_into`].
+///
+/// # Errors
+///
+/// Refusal 1.
+pub fn runs(letters: &[u8]) -> Result<Vec<Run>, Refusal> {
+    let n = lent_entries(letters);
+    let [mut starts, mut ends, mut periods] = std::array::from_fn(|_| vec![0; n.saturating_sub(1)]);
+    let mut work = vec![0; runs_work_length(n)];
+    let number = runs_into(letters, &mut starts, &mut ends, &mut periods, &mut work)?;
+    let found = starts.iter().zip(&ends).zip(&periods).take(number);
+    Ok(found
+        .map(|((&start, &end), &period)| Run {
+            start: start as usize,
+            end: end as usize,
+            period: period as usize,
+        })
+        .collect())
+}
+
+/// The entries of the work memory that [`runs_into`] uses for `n` letters: 6 n, for six tables.
+pub fn runs_work_length(n: usize) -> usize {
+    n.saturating_mul(6)
+}
+
+/// Reports all runs of `letters` in lent memory, each once, by start and then by period, and returns
+/// their number.
+///
+/// Run k is `starts[k]`, `ends[k]`, `periods[k]`, which are a [`Run`]'s members. The three lists have any
+/// one length; n - 1 entries suffice for every string of n letters, n at least 1. All their entries are
+/// written: those beyond the number of runs hold 0.
+///
+/// `work` has [`runs_work_length`]`(n)` entries or more. So many of its first entries are used, may hold
+/// anything before, and hold 0 afterwards; those behind them are left alone. So lists and work memory for
+/// the longest string serve for every string:
+///
+/// ```
+/// let [mut starts, mut ends, mut periods] = [[0; 7]; 3];
+/// let mut work = vec![0; lyndon::runs_work_length(8)];
+/// let number = lyndon::runs_into(b"aabaabab", &mut starts, &mut ends, &mut periods, &mut work)?;
+/// assert_eq!(number, 4);
+/// assert_eq!(starts, [0, 0, 3, 4, 0, 0, 0]);
+/// assert_eq!(ends, [2, 7, 5, 8, 0, 0, 0]);
+/// assert_eq!(periods, [1, 3, 1, 2, 0, 0, 0]);
+///
+/// let number = lyndon::runs_into(b"banana", &mut starts, &mut ends, &mut periods, &mut work)?;
+/// assert_eq!((number, starts[0], ends[0], periods[0]), (1, 1, 6, 2));
+/// # Ok::<(), lyndon::Refusal>(())
+/// ```
+///
+/// # Errors
+///
+/// Refusals 1, 2, 12, 13, tested in this order; 13 exactly where there are more runs than entries in the
+/// lists. The lists are then left as they were. So is the work memory, but for 13: what is used of it
+/// holds 0 then.
+pub fn runs_into(
+    letters: &[u8],
+    starts: &mut [u32],
+    ends: &mut [u32],
+    periods: &mut [u32],
+    work: &mut [u32],
+) -> Result<usize, Refusal> {
+    // Too little work memory makes tables that are too short, which are refused.
+    let entries = letters.len().min(work.len() / 6);
+    let mut rest = work;
+    let tables = std::array::from_fn(|_| {
+        let (table, behind) = std::mem::take(&mut rest).split_at_mut(entries);
+        rest = behind;
+        table
+    });
+    let reply = raw::runs(letters, [starts, ends, periods], tables);
+    Refusal::check(reply.refusal).map(|()| reply.value)
+}
+
 /// The length in bytes of the cabinet file of trees with these letter counts: 8, and for each count n
 /// 8 and [`tree_length`]`(n)`.
 ///
@@ -397,12 +522,7 @@ impl Structure {
     ///
     /// Refusals 1 and 4.
     pub fn halted(letters: &[u8], rows: usize) -> Result<Structure, Refusal> {
-        // Too many letters are refused whatever the tables, so no memory is taken for them.
-        let n = if letters.len() > MAX_LETTERS {
-            0
-        } else {
-            letters.len()
-        };
+        let n = lent_entries(letters);
         let [mut previous, mut next, mut previous_match, mut next_match] =
             std::array::from_fn(|_| vec![0; n]);
         let mut tree = vec![0; tree_length(n)];

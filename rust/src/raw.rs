@@ -1,8 +1,8 @@
-//! The functions of `liblyndon.a` as they are exported, and the build over slices. A slice passes as a pointer and a length.
-//! `include/lyndon.h` declares the same.
+//! The functions of `liblyndon.a` as they are exported, and the build and the runs over slices. A slice passes as a pointer and a
+//! length. `include/lyndon.h` declares the same.
 
 /// The version of these declarations, `LYNDON_VERSION` in the header. [`lyndon_version`] returns that of the archive.
-pub const VERSION: u32 = 1;
+pub const VERSION: u32 = 2;
 
 /// The answer of [`lyndon_build`].
 #[repr(C)]
@@ -22,7 +22,7 @@ pub struct BuildReply {
     pub reach: usize,
 }
 
-/// The answer to a question put to a tree.
+/// The answer to a question put to a tree, and that of [`lyndon_runs`].
 #[repr(C)]
 #[derive(Debug, Clone, Copy, PartialEq, Eq)]
 pub struct Reply {
@@ -84,6 +84,37 @@ pub fn build(
             next_match.len(),
             tree.as_mut_ptr(),
             tree.len(),
+        )
+    }
+}
+
+/// [`lyndon_runs`] over slices. `lists` are the starts, the ends and the periods.
+pub fn runs(letters: &[u8], lists: [&mut [u32]; 3], work: [&mut [u32]; 6]) -> Reply {
+    let [starts, ends, periods] = lists;
+    let [work_1, work_2, work_3, work_4, work_5, work_6] = work;
+    // SAFETY: each pointer comes from a slice with its length, and exclusive slices do not overlap.
+    unsafe {
+        lyndon_runs(
+            letters.as_ptr(),
+            letters.len(),
+            starts.as_mut_ptr(),
+            starts.len(),
+            ends.as_mut_ptr(),
+            ends.len(),
+            periods.as_mut_ptr(),
+            periods.len(),
+            work_1.as_mut_ptr(),
+            work_1.len(),
+            work_2.as_mut_ptr(),
+            work_2.len(),
+            work_3.as_mut_ptr(),
+            work_3.len(),
+            work_4.as_mut_ptr(),
+            work_4.len(),
+            work_5.as_mut_ptr(),
+            work_5.len(),
+            work_6.as_mut_ptr(),
+            work_6.len(),
         )
     }
 }
@@ -161,6 +192,34 @@ extern "C" {
     ///
     /// `letters` is not null and points to `letters_length` bytes.
     pub fn lyndon_word(letters: *const u8, letters_length: usize, position: usize) -> PartReply;
+
+    /// Reports all runs. The value is their number. The work tables have `letters_length` entries each.
+    ///
+    /// # Safety
+    ///
+    /// As for [`lyndon_build`].
+    pub fn lyndon_runs(
+        letters: *const u8,
+        letters_length: usize,
+        starts: *mut u32,
+        starts_length: usize,
+        ends: *mut u32,
+        ends_length: usize,
+        periods: *mut u32,
+        periods_length: usize,
+        work_1: *mut u32,
+        work_1_length: usize,
+        work_2: *mut u32,
+        work_2_length: usize,
+        work_3: *mut u32,
+        work_3_length: usize,
+        work_4: *mut u32,
+        work_4_length: usize,
+        work_5: *mut u32,
+        work_5_length: usize,
+        work_6: *mut u32,
+        work_6_length: usize,
+    ) -> Reply;
 
     /// Writes a cabinet file. Returns the refusal's number, 0 where written.
     ///

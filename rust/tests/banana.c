@@ -58,6 +58,47 @@ static int cabinet_agrees(void)
         && none.refusal == LYNDON_POSITION_OUTSIDE && none.letters == 0 && none.start == 0 && none.length == 0;
 }
 
+static uint32_t starts[N - 1], ends[N - 1], periods[N - 1], work[6][N];
+
+/* The runs of banana in lists of so many entries, over work tables that hold 7. */
+static LyndonReply runs_in(size_t entries)
+{
+    size_t k, i;
+    for (k = 0; k < 6; k++) {
+        for (i = 0; i < N; i++) {
+            work[k][i] = 7;
+        }
+    }
+    return lyndon_runs(letters, N, starts, entries, ends, entries, periods, entries, work[0], N, work[1], N, work[2], N,
+                       work[3], N, work[4], N, work[5], N);
+}
+
+/* Whether all work tables hold 0. */
+static int work_is_cleared(void)
+{
+    size_t k, i;
+    for (k = 0; k < 6; k++) {
+        for (i = 0; i < N; i++) {
+            if (work[k][i] != 0) {
+                return 0;
+            }
+        }
+    }
+    return 1;
+}
+
+/* Whether lists without entries are refused and lists of N - 1 entries hold the one run of banana, and 0 beyond it. */
+static int runs_agree(void)
+{
+    LyndonReply none = runs_in(0);
+    int cleared = work_is_cleared();
+    LyndonReply one = runs_in(N - 1);
+    return none.refusal == LYNDON_TOO_MANY_RUNS && none.value == 0 && cleared
+        && one.refusal == 0 && one.value == 1 && work_is_cleared()
+        && starts[0] == 1 && ends[0] == 6 && periods[0] == 2
+        && starts[1] == 0 && ends[1] == 0 && periods[1] == 0;
+}
+
 int main(void)
 {
     size_t i;
@@ -81,6 +122,9 @@ int main(void)
     }
     if (!cabinet_agrees()) {
         return failed("the cabinet and the tree differ");
+    }
+    if (!runs_agree()) {
+        return failed("lyndon_runs");
     }
 
     printf("length %d comparisons %lu tree ", N, (unsigned long)(built.equal + built.unequal));

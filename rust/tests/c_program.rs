@@ -70,11 +70,14 @@ fn the_program_prints_the_tables_of_banana_in_every_cpp() {
     }
 }
 
-/// A refusal's name as C has it: LYNDON_TOO_LONG for TooLong. Two would read there as the length itself.
+/// A refusal's name as C has it: LYNDON_TOO_LONG for TooLong. Three would read there as the lengths
+/// themselves.
 fn c_name(refusal: Refusal) -> String {
     let mut name = String::from("LYNDON");
-    if let Refusal::TableLength | Refusal::TreeLength = refusal {
-        name.push_str("_WRONG");
+    match refusal {
+        Refusal::TableLength | Refusal::TreeLength => name.push_str("_WRONG"),
+        Refusal::ListLengths => name.push_str("_UNEQUAL"),
+        _ => (),
     }
     for letter in format!("{refusal:?}").chars() {
         if letter.is_uppercase() {

@@ -19,7 +19,7 @@ use Rattle.lyndon.specs.declared.CabinetReply.{CabinetReply}
 
 -- the version of the exported structures and functions: it rises with every change of one of them, of what it answers too
 abbrev pub interfaceVersion : ℕ
-interfaceVersion = 1
+interfaceVersion = 2
 
 -- "A refusal carries its number and no other figure": the others are 0
 abbrev pub buildReply : build.Figures → BuildReply

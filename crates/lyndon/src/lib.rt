@@ -11,7 +11,7 @@ use build::Built;
 use refusal::Answer;
 
 // LYNDON_VERSION of the header.
-const VERSION: u32 = 1;
+const VERSION: u32 = 2;
 
 #[repr(C)]
 pub struct BuildReply {
