@@ -1,12 +1,16 @@
 //! Every refusal and every pair of refusals of every operation but the cabinet's two: the lowest number
-//! is returned, all other figures are 0, and nothing is written.
+//! is returned, all other figures are 0, and nothing is written, but for the work tables by 13.
 
 mod common;
 
 use std::collections::BTreeSet;
 
-use common::{assert_build, assert_read, assert_read_refused, assert_word, Lent, FILLS, LIBRARY};
+use common::{
+    assert_build, assert_read, assert_read_refused, assert_runs, assert_runs_refused, assert_word,
+    Lent, FILLS, LIBRARY,
+};
 use lyndon::{raw, tree_length, Built, Refusal};
+use reference::runs::{by_definition, Run};
 use reference::samples::{random_string, random_tree, Random};
 use reference::{fast, fast_brackets, refusals};
 
@@ -258,12 +262,86 @@ fn words() {
     pairs.assert_all_of(&[1, 5]);
 }
 
+/// The report of these runs, over lists and work tables of these lengths.
+fn check_runs(
+    pairs: &mut Pairs,
+    letters: &[u8],
+    expected: &[Run],
+    lists: [usize; 3],
+    work: [usize; 6],
+) {
+    let applying = refusals::of_runs(letters.len(), work, lists, expected.len());
+    pairs.add(&applying);
+    for fill in FILLS {
+        match refusals::first(&applying) {
+            Ok(()) => assert_runs(letters, lists[0], expected, fill),
+            Err(number) => assert_runs_refused(letters, lists, work, number, fill),
+        }
+    }
+}
+
+/// Every list of so many lengths around one.
+fn lengths_around<const K: usize>(length: usize) -> impl Iterator<Item = [usize; K]> {
+    let choices: Vec<usize> = around(length).collect();
+    let base = choices.len();
+    (0..base.pow(K as u32)).map(move |index| {
+        let mut rest = index;
+        std::array::from_fn(|_| {
+            let choice = choices[rest % base];
+            rest /= base;
+            choice
+        })
+    })
+}
+
+#[test]
+fn runs() {
+    let mut pairs = Pairs::default();
+    for letters in [&b""[..], b"a", b"banana", b"aabaab"] {
+        let expected = by_definition(letters);
+        for work in lengths_around(letters.len()) {
+            for lists in lengths_around(expected.len()) {
+                check_runs(&mut pairs, letters, &expected, lists, work);
+            }
+        }
+        // Lengths that some other measure of the string would give.
+        let n = letters.len();
+        for wrong in [0, n / 2, 2 * n, 6 * n, n + 1000] {
+            for k in 0..6 {
+                let mut work = [n; 6];
+                work[k] = wrong;
+                check_runs(&mut pairs, letters, &expected, [n; 3], work);
+            }
+            for k in 0..3 {
+                let mut lists = [n; 3];
+                lists[k] = wrong;
+                check_runs(&mut pairs, letters, &expected, lists, [n; 6]);
+            }
+        }
+    }
+    for n in [LIMIT, LIMIT + 1] {
+        let letters = vec![b'a'; n];
+        let whole = Run {
+            start: 0,
+            period: 1,
+            end: n,
+        };
+        for lists in [[1; 3], [0; 3], [1, 1, 2], [0, 0, 1]] {
+            for work in [[n; 6], [n, n, n, n, n, n - 1]] {
+                check_runs(&mut pairs, &letters, &[whole], lists, work);
+            }
+        }
+    }
+    pairs.assert_all_of(&[1, 2, 12, 13]);
+}
+
 #[test]
 fn a_million_letters_are_taken_and_one_more_is_refused() {
     let letters = vec![b'a'; LIMIT + 1];
     let tree = random_tree(&mut Random::new(33), LIMIT, 5);
     assert!(lyndon::Structure::of(&letters[1..]).is_ok());
     assert_eq!(lyndon::longest_word(&letters[1..], 0), Ok(b"a".as_slice()));
+    assert_eq!(lyndon::runs(&letters[1..]).map(|runs| runs.len()), Ok(1));
     assert_eq!(
         lyndon::read(LIMIT, &tree, &mut vec![0; LIMIT], &mut vec![0; LIMIT]),
         Ok(())
@@ -276,6 +354,7 @@ fn a_million_letters_are_taken_and_one_more_is_refused() {
         Err(Refusal::TooLong)
     );
     assert_eq!(lyndon::longest_word(&letters, 0), Err(Refusal::TooLong));
+    assert_eq!(lyndon::runs(&letters), Err(Refusal::TooLong));
     assert_read_refused(n, &one_more, [n, n], 1);
     assert_eq!(
         LIBRARY.map(|question| question(n, &one_more, 0)),
@@ -337,7 +416,7 @@ fn structures_in_memory_of_their_own() {
 #[test]
 fn refusals_have_their_numbers() {
     let numbers = Refusal::ALL.map(Refusal::number);
-    assert_eq!(numbers, [1, 2, 3, 4, 5, 6, 7, 8, 9, 10, 11]);
+    assert_eq!(numbers, [1, 2, 3, 4, 5, 6, 7, 8, 9, 10, 11, 12, 13]);
     assert_eq!(lyndon::MAX_LETTERS, LIMIT);
     assert_eq!(
         Refusal::LeftOpen.to_string(),

@@ -1,112 +1,238 @@
-//! The report of all runs against a reference that goes period by period: what it lists, what it refuses,
-//! and what it leaves in the lent memory.
+//! The report of all runs: every short string against the definition, longer ones against a reference that
+//! goes period by period, long ones against plain Rust by the same method; and the wrapper's two functions.
 
-use lyndon::{raw, Refusal, Run, MAX_LETTERS};
-use reference::samples::{fibonacci, kinds, random_string, repeated, strings_over, Random};
-use reference::{refusals, runs::runs};
+mod common;
 
-const FILLS: [u32; 3] = [0, 7, u32::MAX];
+use common::{assert_list, assert_runs, assert_runs_refused, Guarded, FILLS};
+use lyndon::{runs_into, runs_work_length, Refusal, MAX_LETTERS};
+use reference::runs::{by_definition, by_periods, lists, Run};
+use reference::samples::{self, Random};
+use reference::{fast_runs, refusals};
 
-/// Asks for the runs over lists and work tables of these lengths, and compares all that is left.
-fn check(letters: &[u8], work: [usize; 6], lists: [usize; 3]) {
-    let refused = refusals::first(&refusals::of_runs(letters, work, lists));
-    for fill in FILLS {
-        let lent = lists.map(|length| vec![fill; length]);
-        let tables = work.map(|length| vec![fill; length]);
-        let (mut got_lists, mut got_work) = (lent.clone(), tables.clone());
-        let reply = raw::runs(
-            letters,
-            got_lists.each_mut().map(Vec::as_mut_slice),
-            got_work.each_mut().map(Vec::as_mut_slice),
-        );
-        let zeros = work.map(|length| vec![0; length]);
-        if let Err(refusal) = refused {
-            assert_eq!(reply, raw::Reply { refusal, value: 0 }, "{letters:?}");
-            assert_eq!(got_lists, lent);
-            assert_eq!(got_work, if refusal == 13 { zeros } else { tables });
-            continue;
+/// Asserts that lists with one entry too few are refused, and that the runs are reported in lists with
+/// just enough entries, with one more, and with one fewer than letters.
+fn check_string(letters: &[u8], expected: &[Run]) {
+    let (n, number) = (letters.len(), expected.len());
+    assert!(number < n.max(1), "fewer runs than letters");
+    for (k, entries) in [number, number + 1, n.saturating_sub(1)]
+        .into_iter()
+        .enumerate()
+    {
+        assert_runs(letters, entries, expected, FILLS[k % 2]);
+    }
+    if number > 0 {
+        let fill = FILLS[number % 2];
+        assert_runs_refused(letters, [number - 1; 3], [n; 6], 13, fill);
+    }
+}
+
+fn check_every_string(alphabet: &[u8], longest: usize) {
+    for n in 0..=longest {
+        for letters in samples::strings_over(alphabet, n) {
+            check_string(&letters, &by_definition(&letters));
         }
-        let mut want = lists.map(|length| vec![0; length]);
-        let found = runs(letters);
-        for (k, &(start, period, end)) in found.iter().enumerate() {
-            for (list, value) in want.iter_mut().zip([start, end, period]) {
-                list[k] = value as u32;
+    }
+}
+
+// The letters 127 and 128 are in the other order when a byte is taken as signed.
+
+#[test]
+fn every_string_over_two_letters() {
+    check_every_string(&[127, 128], 14);
+}
+
+#[test]
+fn every_string_over_three_letters() {
+    check_every_string(&[0, 127, 255], 9);
+}
+
+/// Strings of `n` letters of different kinds.
+fn strings(random: &mut Random, n: usize) -> Vec<(&'static str, Vec<u8>)> {
+    let mut strings = samples::kinds(random, n);
+    // With the order of the letters reversed.
+    let upside_down = |letters: &[u8]| letters.iter().map(|letter| 255 - letter).collect();
+    strings.extend([
+        ("Fibonacci upside down", upside_down(&samples::fibonacci(n))),
+        ("period doubling", samples::period_doubling(n)),
+        ("ruler", samples::ruler(n)),
+        ("ruler upside down", upside_down(&samples::ruler(n))),
+        ("squares", samples::squares(n)),
+        ("planted", samples::planted(random, n).0),
+    ]);
+    strings
+}
+
+#[test]
+fn strings_of_100_letters_by_the_definition() {
+    for (kind, letters) in strings(&mut Random::new(51), 100) {
+        println!("{kind}");
+        check_string(&letters, &by_definition(&letters));
+    }
+}
+
+#[test]
+fn strings_of_about_10_000_letters_period_by_period() {
+    let mut random = Random::new(52);
+    for n in [9_999, 15_000] {
+        for (kind, letters) in strings(&mut random, n) {
+            println!("{n} letters, {kind}");
+            check_string(&letters, &by_periods(&letters));
+        }
+    }
+}
+
+#[test]
+fn strings_of_about_100_000_letters() {
+    let mut random = Random::new(53);
+    for n in [99_991, 100_000] {
+        for (kind, letters) in strings(&mut random, n) {
+            println!("{n} letters, {kind}");
+            check_string(&letters, &fast_runs::runs(&letters));
+        }
+    }
+}
+
+#[test]
+fn strings_of_1_000_000_letters() {
+    for (kind, letters) in strings(&mut Random::new(54), MAX_LETTERS) {
+        println!("{kind}");
+        check_string(&letters, &fast_runs::runs(&letters));
+    }
+}
+
+#[test]
+fn random_strings_of_random_lengths_and_alphabets() {
+    let mut random = Random::new(55);
+    for _ in 0..500 {
+        let (n, size) = (1 + random.below(2_000), 1 + random.below(256));
+        let letters = samples::random_string(&mut random, n, size);
+        check_string(&letters, &fast_runs::runs(&letters));
+    }
+}
+
+#[test]
+fn random_words_repeated() {
+    let mut random = Random::new(56);
+    for _ in 0..500 {
+        let n = 1 + random.below(2_000);
+        let (length, size) = (1 + random.below(20), 1 + random.below(3));
+        let word = samples::random_string(&mut random, length, size);
+        let letters = samples::repeated(&word, n);
+        check_string(&letters, &fast_runs::runs(&letters));
+    }
+}
+
+/// The runs as the wrapper gives them in memory of its own.
+fn runs(letters: &[u8]) -> Vec<[usize; 3]> {
+    let runs = lyndon::runs(letters).expect("at most 1,000,000 letters");
+    let members = runs.iter().map(|run| [run.start, run.end, run.period]);
+    members.collect()
+}
+
+#[test]
+fn runs_that_are_known() {
+    assert_eq!(runs(b"banana"), [[1, 6, 2]]);
+    let mississippi = [[1, 8, 3], [2, 4, 1], [5, 7, 1], [8, 10, 1]];
+    assert_eq!(runs(b"mississippi"), mississippi);
+    // Two runs with the same start: the shorter period comes first.
+    let aabaab = [[0, 2, 1], [0, 6, 3], [3, 5, 1]];
+    assert_eq!(runs(b"aabaab"), aabaab);
+    let none: [[usize; 3]; 0] = [];
+    assert_eq!(runs(b""), none);
+    assert_eq!(runs(b"a"), none);
+    assert_eq!(runs(b"abc"), none);
+    assert_eq!(runs(&[0xff; MAX_LETTERS]), [[0, MAX_LETTERS, 1]]);
+    assert_eq!(
+        runs(&samples::repeated(b"ab", MAX_LETTERS)),
+        [[0, MAX_LETTERS, 2]]
+    );
+    // A Fibonacci word has two runs for each letter of the one two before it, less 3.
+    let (word, two_before) = (832_040, 317_811);
+    assert_eq!(runs(&samples::fibonacci(word)).len(), 2 * two_before - 3);
+}
+
+#[test]
+fn planted_repeats_are_found() {
+    let (letters, stretches) = samples::planted(&mut Random::new(57), 200_000);
+    let found = runs(&letters);
+    assert!(stretches.len() > 100, "enough are planted");
+    for [start, end, period] in stretches {
+        let found = found.iter().any(|&run| {
+            let [run_start, run_end, run_period] = run;
+            run_start <= start && end <= run_end && run_period == period
+        });
+        assert!(found, "from {start} to {end} with period {period}");
+    }
+}
+
+#[test]
+fn work_tables_may_hold_anything() {
+    let letters = b"aabaabab";
+    let n = letters.len();
+    let expected = lists(&by_definition(letters), n);
+    for value in (0..=n as u32 + 1).chain([u32::MAX - 1, u32::MAX]) {
+        let [mut starts, mut ends, mut periods] = [[value; 8]; 3];
+        let mut work = vec![value; runs_work_length(n)];
+        let number = runs_into(letters, &mut starts, &mut ends, &mut periods, &mut work);
+        assert_eq!(number, Ok(4), "over {value}");
+        assert_eq!([&starts[..], &ends, &periods], expected, "over {value}");
+        assert_eq!(work, vec![0; runs_work_length(n)], "over {value}");
+    }
+}
+
+/// Asks the wrapper for the runs in lists and work memory of these lengths.
+fn check_into(letters: &[u8], entries: [usize; 3], work_length: usize) {
+    let n = letters.len();
+    let used = runs_work_length(n);
+    let expected = by_definition(letters);
+    let enough = if work_length < used { n + 1 } else { n };
+    let refused = refusals::first(&refusals::of_runs(n, [enough; 6], entries, expected.len()));
+    for fill in FILLS {
+        let mut lent = entries.map(|length| Guarded::new(length, fill));
+        let mut work = Guarded::new(work_length, fill);
+        let before: Vec<u32> = work.contents().to_vec();
+        let [starts, ends, periods] = lent.each_mut().map(Guarded::lent);
+        let answer = runs_into(letters, starts, ends, periods, work.lent());
+        assert_eq!(
+            answer.map_err(Refusal::number),
+            refused.map(|()| expected.len())
+        );
+        match refused {
+            Ok(()) => {
+                let lists = lists(&expected, entries[0]);
+                for (list, expected) in lent.iter().zip(&lists) {
+                    assert_list("a list", list.contents(), expected);
+                }
+            }
+            Err(_) => lent.iter().for_each(Guarded::assert_untouched),
+        }
+        match refused {
+            Ok(()) | Err(13) => {
+                assert_list("the work memory", &work.contents()[..used], &vec![0; used]);
+                let behind = &work.contents()[used..];
+                assert_list("the memory behind it", behind, &before[used..]);
+            }
+            Err(_) => work.assert_untouched(),
+        }
+    }
+}
+
+#[test]
+fn the_wrapper_uses_as_much_work_memory_as_it_says() {
+    for letters in [&b""[..], b"a", b"banana", b"aabaab", b"mississippi"] {
+        let used = runs_work_length(letters.len());
+        assert_eq!(used, 6 * letters.len());
+        let n = letters.len();
+        for work_length in [used.saturating_sub(1), used, used + 1, used + 6, used + 100] {
+            for entries in 0..=n {
+                check_into(letters, [entries; 3], work_length);
+                check_into(letters, [entries + 1, entries, entries], work_length);
+                check_into(letters, [entries, entries + 1, entries], work_length);
+                check_into(letters, [entries, entries, entries + 1], work_length);
             }
         }
-        let value = found.len();
-        assert_eq!(reply, raw::Reply { refusal: 0, value }, "{letters:?}");
-        assert_eq!(got_lists, want, "{letters:?}");
-        assert_eq!(got_work, zeros);
+        check_into(letters, [n; 3], 0);
+        check_into(letters, [n; 3], n);
     }
-}
-
-/// Lists that are too short by one, just long enough, and longer.
-fn check_string(letters: &[u8]) {
-    let number = runs(letters).len();
-    assert!(letters.is_empty() || number < letters.len());
-    let work = [letters.len(); 6];
-    for length in number.saturating_sub(1)..=number + 2 {
-        check(letters, work, [length; 3]);
-    }
-}
-
-#[test]
-fn every_short_string() {
-    for n in 0..=12 {
-        strings_over(b"ab", n).for_each(|letters| check_string(&letters));
-    }
-    for n in 0..=7 {
-        strings_over(b"abc", n).for_each(|letters| check_string(&letters));
-    }
-}
-
-#[test]
-fn longer_strings() {
-    let mut random = Random::new(3);
-    for n in [13, 50, 200, 700] {
-        for (_, letters) in kinds(&mut random, n) {
-            check_string(&letters);
-        }
-        check_string(&[repeated(b"ab", n), repeated(b"aab", n)].concat());
-        // the greatest and the least byte, whose ranks the two orders exchange
-        let ends: Vec<u8> = random_string(&mut random, n, 2)
-            .iter()
-            .map(|&x| 0u8.wrapping_sub(x & 1))
-            .collect();
-        check_string(&ends);
-    }
-}
-
-#[test]
-fn the_order_of_the_refusals() {
-    let letters = b"aabaab";
-    for odd in 0..=6 {
-        let mut work = [6; 6];
-        if odd < 6 {
-            work[odd] = 5 + 2 * (odd % 2);
-        }
-        for lists in [[3; 3], [2; 3], [2, 3, 3], [3, 2, 3], [3, 3, 2], [0, 0, 1]] {
-            check(letters, work, lists);
-        }
-    }
-    let too_long = vec![0; MAX_LETTERS + 1];
-    check(&too_long, [0; 6], [0, 1, 2]);
-    check(&too_long, [MAX_LETTERS + 1; 6], [0; 3]);
-    assert_eq!(lyndon::runs(&too_long), Err(Refusal::TooLong));
-}
-
-#[test]
-fn the_longest_string() {
-    let one_letter = lyndon::runs(&vec![0xff; MAX_LETTERS]).unwrap();
-    let whole = Run {
-        start: 0,
-        end: MAX_LETTERS,
-        period: 1,
-    };
-    assert_eq!(one_letter, [whole]);
-    // a Fibonacci word of f letters has 2 f' - 3 runs, f' being the number of letters two words before
-    assert_eq!(
-        lyndon::runs(&fibonacci(832_040)).unwrap().len(),
-        2 * 317_811 - 3
-    );
+    assert_eq!(runs_work_length(usize::MAX), usize::MAX);
 }

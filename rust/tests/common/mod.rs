@@ -6,6 +6,7 @@
 use std::fmt::Debug;
 
 use lyndon::{raw, Built, Refusal};
+use reference::runs::{self, Run};
 use reference::{fast_brackets, Structure};
 
 /// A question put to a tree: n, the tree's bytes and a position. A refusal is its number.
@@ -162,6 +163,81 @@ impl Lent {
         self.previous_match.assert_untouched();
         self.next_match.assert_untouched();
         self.tree.assert_untouched();
+    }
+}
+
+/// The memory that a report of runs is lent.
+pub struct LentForRuns {
+    /// The starts, the ends and the periods.
+    pub lists: [Guarded<u32>; 3],
+    pub work: [Guarded<u32>; 6],
+}
+
+impl LentForRuns {
+    /// Lists and work tables of the given lengths.
+    pub fn new(lists: [usize; 3], work: [usize; 6], fill: Fill) -> LentForRuns {
+        LentForRuns {
+            lists: lists.map(|length| Guarded::new(length, fill)),
+            work: work.map(|length| Guarded::new(length, fill)),
+        }
+    }
+
+    /// Reports through the exported function.
+    pub fn report_raw(&mut self, letters: &[u8]) -> raw::Reply {
+        raw::runs(
+            letters,
+            self.lists.each_mut().map(Guarded::lent),
+            self.work.each_mut().map(Guarded::lent),
+        )
+    }
+
+    /// Asserts that every work table holds 0.
+    pub fn assert_cleared(&self) {
+        for (k, table) in self.work.iter().enumerate() {
+            let zeros = vec![0; table.contents().len()];
+            assert_list(&format!("work table {}", k + 1), table.contents(), &zeros);
+        }
+    }
+}
+
+/// Asserts that the report is `expected`, in lists of so many entries, and that the work tables hold 0
+/// then.
+pub fn assert_runs(letters: &[u8], entries: usize, expected: &[Run], fill: Fill) {
+    let mut lent = LentForRuns::new([entries; 3], [letters.len(); 6], fill);
+    let reply = lent.report_raw(letters);
+    let value = expected.len();
+    assert_eq!(reply, raw::Reply { refusal: 0, value }, "the reply");
+    let lists = runs::lists(expected, entries);
+    for (k, name) in ["starts", "ends", "periods"].into_iter().enumerate() {
+        assert_list(name, lent.lists[k].contents(), &lists[k]);
+    }
+    lent.assert_cleared();
+}
+
+/// Asserts that the report over memory of these lengths is refused, and that it leaves all of it; or, for
+/// 13, the lists, and clears the work tables.
+pub fn assert_runs_refused(
+    letters: &[u8],
+    lists: [usize; 3],
+    work: [usize; 6],
+    number: u32,
+    fill: Fill,
+) {
+    let mut lent = LentForRuns::new(lists, work, fill);
+    let reply = lent.report_raw(letters);
+    let refused = raw::Reply {
+        refusal: number,
+        value: 0,
+    };
+    assert_eq!(
+        reply, refused,
+        "lists of {lists:?}, work tables of {work:?}"
+    );
+    lent.lists.iter().for_each(Guarded::assert_untouched);
+    if number == 13 {
+        lent.assert_cleared();
+    } else {
+        lent.work.iter().for_each(Guarded::assert_untouched);
     }
 }
 
