@@ -1,4 +1,4 @@
-//! Prints the nearest smaller suffixes of banana, 6 for none, and its tree.
+//! Prints the nearest smaller suffixes of banana, 6 for none, its tree, and its runs: start, end and period.
 
 fn main() -> Result<(), lyndon::Refusal> {
     let banana = lyndon::Structure::of(b"banana")?;
@@ -9,5 +9,8 @@ fn main() -> Result<(), lyndon::Refusal> {
         print!("{byte:02x}");
     }
     println!();
+    for run in lyndon::runs(b"banana")? {
+        println!("run {} {} {}", run.start, run.end, run.period);
+    }
     Ok(())
 }
