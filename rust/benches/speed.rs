@@ -1,20 +1,46 @@
-//! Times the library beside plain Rust: builds of 1,000,000 letters, how their cost grows, trees, and
-//! cabinets of them.
+//! Times the library beside plain Rust: builds and runs of 1,000,000 letters, how their cost grows, trees,
+//! and cabinets of them. `cargo bench -- runs` measures the runs alone, and so for `builds`, `trees` and
+//! `cabinets`.
 //!
 //! Both sides take turns in one run, on the same input and the same buffers, which are not cleared
-//! between. Each answer is compared with the first one, outside the measured time.
+//! between. Each answer is compared with the first one, outside the measured time. The time is that which
+//! the thread has on a processor.
 
 use std::fmt::Debug;
 use std::hint::black_box;
-use std::time::Instant;
 
 use reference::samples::{self, Random};
-use reference::{cabinet, fast, fast_brackets, Figures};
+use reference::{cabinet, fast, fast_brackets, fast_runs, Figures};
 
 const LETTERS: usize = 1_000_000;
 const BUILD_ROUNDS: usize = 31;
+const RUNS_ROUNDS: usize = 31;
 const TREE_ROUNDS: usize = 101;
 const CABINET_ROUNDS: usize = 31;
+
+/// Linux's `struct timespec` on x86-64.
+#[repr(C)]
+struct TimeSpec {
+    seconds: i64,
+    nanoseconds: i64,
+}
+
+extern "C" {
+    fn clock_gettime(clock: i32, time: *mut TimeSpec) -> i32;
+}
+
+/// The milliseconds that this thread has been on a processor.
+fn thread_time() -> f64 {
+    const CLOCK_THREAD_CPUTIME_ID: i32 = 3;
+    let mut time = TimeSpec {
+        seconds: 0,
+        nanoseconds: 0,
+    };
+    // SAFETY: the pointer is that of a structure as C has it.
+    let failed = unsafe { clock_gettime(CLOCK_THREAD_CPUTIME_ID, &mut time) };
+    assert_eq!(failed, 0, "the thread's time");
+    time.seconds as f64 * 1e3 + time.nanoseconds as f64 / 1e6
+}
 
 /// Measured times, or ratios of them.
 struct Times(Vec<f64>);
@@ -74,9 +100,9 @@ impl Comparison {
         assert_eq!(plain(state), answer, "both sides give the same answer");
         assert!(*state == left, "both sides leave the same memory");
         let mut time = |side: &dyn Fn(&mut S) -> A| {
-            let start = Instant::now();
+            let start = thread_time();
             let given = side(black_box(state));
-            let time = start.elapsed().as_secs_f64() * 1000.0;
+            let time = thread_time() - start;
             assert_eq!(given, answer, "both sides give the same answer");
             assert!(*state == left, "both sides leave the same memory");
             time
@@ -168,11 +194,11 @@ fn costs(n: usize) -> Vec<(&'static str, String)> {
     let mut cost = |letters: &[u8]| {
         let mut counts = [0; 2];
         let times = (0..BUILD_ROUNDS).map(|_| {
-            let start = Instant::now();
+            let start = thread_time();
             let built = buffers.build_by_library(black_box(letters));
-            let time = start.elapsed().as_secs_f64() * 1e9 / n as f64;
+            let time = thread_time() - start;
             counts = [built.equal, built.unequal];
-            time
+            time * 1e6 / n as f64
         });
         let times = Times(times.collect());
         let [equal, unequal] = counts.map(|count| count as f64 / n as f64);
@@ -184,12 +210,106 @@ fn costs(n: usize) -> Vec<(&'static str, String)> {
         .collect()
 }
 
-fn measure_growth() {
+fn measure_growth_of_builds() {
     println!("\nHow the library's build grows: median nanoseconds, equal and unequal comparisons a letter.");
     let lengths = [10_000, 100_000, LETTERS];
     let heads = lengths.map(|n| format!("{n} letters: ns | equal | unequal"));
     print_head(&format!("letters | {}", heads.join(" | ")));
     let columns = lengths.map(costs);
+    for (k, (kind, _)) in columns[0].iter().enumerate() {
+        let cells = columns.each_ref().map(|column| column[k].1.as_str());
+        println!("| {kind} | {} |", cells.join(" | "));
+    }
+}
+
+/// The memory that a report of runs is lent: starts, ends and periods, and the work tables.
+#[derive(Clone, PartialEq)]
+struct RunsBuffers {
+    lists: [Vec<u32>; 3],
+    work: [Vec<u32>; 6],
+}
+
+impl RunsBuffers {
+    /// For `n` letters, holding something else than what a report leaves.
+    fn new(n: usize) -> RunsBuffers {
+        RunsBuffers {
+            lists: std::array::from_fn(|_| vec![7; n - 1]),
+            work: std::array::from_fn(|_| vec![7; n]),
+        }
+    }
+
+    fn report_by_library(&mut self, letters: &[u8]) -> usize {
+        let reply = lyndon::raw::runs(
+            letters,
+            self.lists.each_mut().map(Vec::as_mut_slice),
+            self.work.each_mut().map(Vec::as_mut_slice),
+        );
+        assert_eq!(reply.refusal, 0, "not refused");
+        reply.value
+    }
+
+    fn report_by_plain_rust(&mut self, letters: &[u8]) -> usize {
+        fast_runs::report(
+            letters,
+            self.lists.each_mut().map(Vec::as_mut_slice),
+            self.work.each_mut().map(Vec::as_mut_slice),
+        )
+        .expect("not refused")
+    }
+}
+
+/// The kinds of strings, and more for the runs: on squares the report moves the most entries, on the ruler
+/// it compares the most letters for no run at all. Fibonacci has the most comparisons.
+fn kinds_for_runs(random: &mut Random, n: usize) -> Vec<(&'static str, Vec<u8>)> {
+    let mut kinds = samples::kinds(random, n);
+    kinds.extend([
+        ("period doubling", samples::period_doubling(n)),
+        ("squares", samples::squares(n)),
+        ("ruler", samples::ruler(n)),
+    ]);
+    kinds
+}
+
+fn compare_runs() {
+    println!("\nRuns of {LETTERS} letters, {RUNS_ROUNDS} rounds.");
+    print_head(&format!("letters | runs | {}", Comparison::COLUMNS));
+    for (kind, letters) in kinds_for_runs(&mut Random::new(44), LETTERS) {
+        let mut buffers = RunsBuffers::new(LETTERS);
+        let comparison = Comparison::run(
+            RUNS_ROUNDS,
+            &mut buffers,
+            |buffers| buffers.report_by_library(black_box(&letters)),
+            |buffers| buffers.report_by_plain_rust(black_box(&letters)),
+        );
+        let number = buffers.report_by_library(&letters);
+        println!("| {kind} | {number} | {} |", comparison.row());
+    }
+}
+
+fn measure_growth_of_runs() {
+    println!(
+        "\nHow the library's report of runs grows: median nanoseconds a letter, and runs a letter."
+    );
+    let lengths = [10_000, 100_000, LETTERS];
+    let heads = lengths.map(|n| format!("{n} letters: ns | runs"));
+    print_head(&format!("letters | {}", heads.join(" | ")));
+    let columns = lengths.map(|n| {
+        let mut buffers = RunsBuffers::new(n);
+        let mut cost = |letters: &[u8]| {
+            let mut number = 0;
+            let times = (0..RUNS_ROUNDS).map(|_| {
+                let start = thread_time();
+                number = buffers.report_by_library(black_box(letters));
+                (thread_time() - start) * 1e6 / n as f64
+            });
+            let times = Times(times.collect());
+            format!("{:.1} | {:.2}", times.median(), number as f64 / n as f64)
+        };
+        let kinds = kinds_for_runs(&mut Random::new(45), n).into_iter();
+        kinds
+            .map(|(kind, letters)| (kind, cost(&letters)))
+            .collect::<Vec<_>>()
+    });
     for (k, (kind, _)) in columns[0].iter().enumerate() {
         let cells = columns.each_ref().map(|column| column[k].1.as_str());
         println!("| {kind} | {} |", cells.join(" | "));
@@ -278,17 +398,15 @@ fn compare_cabinets(trees: &[(&str, Vec<u8>)]) {
 
 /// Printed first.
 const LEGEND: &str = "\
-Ratios are library / plain Rust. 'Median of ratios' is over the rounds, each with its own ratio. The
+Times are thread time. Ratios are library / plain Rust. 'Median of ratios' is over the rounds, each with its own ratio. The
 noise: 'plain against itself' is the median of plain Rust's even rounds by that of its odd rounds,
 'spread of plain' the distance of its quartiles as a part of its median.";
 
-fn main() {
-    println!("{LEGEND}");
-    compare_builds();
-    measure_growth();
+/// Trees of different shapes.
+fn trees() -> [(&'static str, Vec<u8>); 4] {
     let mut random = Random::new(43);
     let letters = samples::random_string(&mut random, LETTERS, 4);
-    let trees = [
+    [
         (
             "of 4 random letters",
             fast::structure(&letters, LETTERS).tree,
@@ -299,8 +417,31 @@ fn main() {
             "one root over leaves",
             samples::one_root_over_leaves(LETTERS),
         ),
-    ];
-    compare_readings(&trees);
-    compare_questions(&trees);
-    compare_cabinets(&trees);
+    ]
+}
+
+fn main() {
+    // Cargo hands on an option of its own.
+    let wanted: Vec<String> = std::env::args()
+        .skip(1)
+        .filter(|argument| !argument.starts_with('-'))
+        .collect();
+    let asked = |part: &str| wanted.is_empty() || wanted.iter().any(|name| name == part);
+    println!("{LEGEND}");
+    if asked("builds") {
+        compare_builds();
+        measure_growth_of_builds();
+    }
+    if asked("runs") {
+        compare_runs();
+        measure_growth_of_runs();
+    }
+    if asked("trees") {
+        let trees = trees();
+        compare_readings(&trees);
+        compare_questions(&trees);
+    }
+    if asked("cabinets") {
+        compare_cabinets(&trees());
+    }
 }
