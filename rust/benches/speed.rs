@@ -398,9 +398,9 @@ fn compare_cabinets(trees: &[(&str, Vec<u8>)]) {
 
 /// Printed first.
 const LEGEND: &str = "\
-Times are thread time. Ratios are library / plain Rust. 'Median of ratios' is over the rounds, each with its own ratio. The
-noise: 'plain against itself' is the median of plain Rust's even rounds by that of its odd rounds,
-'spread of plain' the distance of its quartiles as a part of its median.";
+Times are those of the thread on a processor. Ratios are library / plain Rust. 'Median of ratios' is over
+the rounds, each with its own ratio. The noise: 'plain against itself' is the median of plain Rust's even
+rounds by that of its odd rounds, 'spread of plain' the distance of its quartiles as a part of its median.";
 
 /// Trees of different shapes.
 fn trees() -> [(&'static str, Vec<u8>); 4] {

@@ -6,8 +6,9 @@ use crate::{fast, refusals};
 
 /// The letters before `i` that agree with those before `j`, counted up to one more than `j` - `i`.
 fn left_of(letters: &[u8], i: usize, j: usize) -> usize {
-    let before = letters[..i].iter().rev().zip(letters[..j].iter().rev());
-    before.take(j - i + 1).take_while(|(a, b)| a == b).count()
+    let most = i.min(j - i + 1);
+    let before = letters[i - most..i].iter().zip(&letters[j - most..j]);
+    before.rev().take_while(|(a, b)| a == b).count()
 }
 
 /// The run with a Lyndon root at `i`, whose next smaller suffix in one of the orders is at `j` and shares
