@@ -2,113 +2,20 @@
 use mathlib.Core.Path.{_≡_, refl, sym, ap, _∙_}
 use mathlib.Core.Logic.{_≢_, _⊎_, inl, inr}
 use mathlib.Core.Bool.{Bool, true, false, true≢false}
-use mathlib.Core.List.{List, [], _∷_, _++_, List·Memᴰ, List·Memᴰ·head, List·Memᴰ·tail, List·Memᴰ·not-nil, List·Memᴰ·cases-cons, Memᴰ·cast}
+use mathlib.Core.List.{List, [], _∷_, List·Memᴰ, List·Memᴰ·not-nil, Memᴰ·cast}
 use Prim.Native.Nat.{ℕ, zero, suc, _-_, _≤_, _<_, max}
 use native.Mathlib.Omega.{arith}
 use lib.ListN.{length, getD}
-use borrow.Author.Tests.{lt-ltb, le-ltb, eq-eqb, ne-eqb}
+use borrow.Author.Tests.{eq-eqb, ne-eqb}
 use Rattle.suffix.proofs.Cases.{Tri, lt, eq, gt, tri, Same, same, other, same?, Test, holds, fails, test}
-use Rattle.repeats.specs.Runs.{Run, IsRun, runsAfter, runs}
-use Rattle.repeats.specs.Roots.{reports, accepted, reported, noRun, reportOf, reportAt, before, insert, put, gathered}
-use Rattle.repeats.specs.Claims.{Before, earlier, shorter, Ordered, none, then, AtMost, Root}
-use Rattle.repeats.proofs.Listing.{before-trans, same-run, lists-only}
-use Rattle.repeats.proofs.Roots.{accepts-told, accepted-within, reported-run, run-reported, reported-once, one-order}
-
--- ---- insertion into an ordered list
-
-pub before-yes : {r q : Run} → Before r q → before r q ≡ true
-unfolding before
-before-yes {r} {q} (earlier h) = rw (lt-ltb (r .start) (q .start) h)
-before-yes {r} {q} (shorter e h) = rw (le-ltb (r .start) (q .start) (omega arith), eq-eqb (r .start) (q .start) e, lt-ltb (r .period) (q .period) h)
-
-before-no : {r q : Run} → Before q r → before r q ≡ false
-unfolding before
-before-no {r} {q} (earlier h) = rw (le-ltb (r .start) (q .start) (omega arith), ne-eqb (r .start) (q .start) (omega arith))
-before-no {r} {q} (shorter e h) = rw (le-ltb (r .start) (q .start) (omega arith), eq-eqb (r .start) (q .start) (omega arith), le-ltb (r .period) (q .period) (omega arith))
-
-insert-here : (r q : Run) (l : List Run) → Before r q → insert r (q ∷ l) ≡ r ∷ q ∷ l
-unfolding insert
-insert-here r q l h = rw (before-yes h, insert)
-
-insert-on : (r q : Run) (l : List Run) → Before q r → insert r (q ∷ l) ≡ q ∷ insert r l
-unfolding insert
-insert-on r q l h = rw (before-no h, insert)
-
--- however its place is found
-pub insert-at : (r : Run) (u v : List Run) → ((q : Run) → List·Memᴰ q u → Before q r) → ((q : Run) → List·Memᴰ q v → Before r q) → insert r (u ++ v) ≡ u ++ r ∷ v
-unfolding insert
-insert-at r [] [] a b = refl
-insert-at r [] (q ∷ v) a b = insert-here r q v (b q (List·Memᴰ·head refl))
-insert-at r (q ∷ u) v a b =
-    insert-on r q (u ++ v) (a q (List·Memᴰ·head refl)) ∙ ap (λ (l : List Run). q ∷ l) (insert-at r u v (λ x m. a x (List·Memᴰ·tail m)) b)
-
-pub insert-length : (r : Run) (l : List Run) → length (insert r l) ≡ suc (length l)
-unfolding insert
-insert-length r [] = refl
-insert-length r (q ∷ l) = go (test (before r q)) (insert-length r l)
-  where
-    go : Test (before r q) → length (insert r l) ≡ suc (length l) → length (insert r (q ∷ l)) ≡ suc (suc (length l))
-    go (holds e) ih = rw (e, insert)
-    go (fails e) ih = rw (e, insert) (ap suc ih)
-
--- r is told apart by start and period from all of l
-abbrev pub Fresh : Run → List Run → Type 0
-Fresh r l = (q : Run) → List·Memᴰ q l → Before r q ⊎ Before q r
-
-record Inserted (r : Run) (l m : List Run) : Type 0 where
-  new : List·Memᴰ r m
-  old : (q : Run) → List·Memᴰ q l → List·Memᴰ q m
-  from : (q : Run) → List·Memᴰ q m → (q ≡ r) ⊎ List·Memᴰ q l
-  ordered : Ordered m
-
-inserted : (r : Run) (l : List Run) → Ordered l → Fresh r l → Inserted r l (insert r l)
-unfolding insert
-inserted r [] s f =
-    record {
-      new = List·Memᴰ·head refl;
-      old = λ q m. absurd (List·Memᴰ·not-nil m);
-      from = λ q m. List·Memᴰ·cases-cons m;
-      ordered = then (λ q m. absurd (List·Memᴰ·not-nil m)) none;
-    }
-inserted r (q ∷ l) (then h s) f = go (f q (List·Memᴰ·head refl)) (inserted r l s (λ x m. f x (List·Memᴰ·tail m)))
-  where
-    first : Before r q → (x : Run) → (x ≡ q) ⊎ List·Memᴰ x l → Before r x
-    first b x (inl e) = rw e b
-    first b x (inr m) = before-trans b (h x m)
-
-    later : Before q r → (x : Run) → (x ≡ r) ⊎ List·Memᴰ x l → Before q x
-    later b x (inl e) = rw e b
-    later b x (inr m) = h x m
-
-    keep : Inserted r l (insert r l) → (x : Run) → (x ≡ q) ⊎ List·Memᴰ x l → List·Memᴰ x (q ∷ insert r l)
-    keep ih x (inl e) = List·Memᴰ·head e
-    keep ih x (inr m) = List·Memᴰ·tail (ih .old x m)
-
-    down : (x : Run) → (x ≡ r) ⊎ List·Memᴰ x l → (x ≡ r) ⊎ List·Memᴰ x (q ∷ l)
-    down x (inl e) = inl e
-    down x (inr m) = inr (List·Memᴰ·tail m)
-
-    whence : Inserted r l (insert r l) → (x : Run) → (x ≡ q) ⊎ List·Memᴰ x (insert r l) → (x ≡ r) ⊎ List·Memᴰ x (q ∷ l)
-    whence ih x (inl e) = inr (List·Memᴰ·head e)
-    whence ih x (inr m) = down x (ih .from x m)
-
-    go : Before r q ⊎ Before q r → Inserted r l (insert r l) → Inserted r (q ∷ l) (insert r (q ∷ l))
-    go (inl b) ih =
-        rw (insert-here r q l b)
-        (record {
-          new = List·Memᴰ·head refl;
-          old = λ x m. List·Memᴰ·tail m;
-          from = λ x m. List·Memᴰ·cases-cons m;
-          ordered = then (λ x m. first b x (List·Memᴰ·cases-cons m)) (then h s);
-        })
-    go (inr b) ih =
-        rw (insert-on r q l b)
-        (record {
-          new = List·Memᴰ·tail (ih .new);
-          old = λ x m. keep ih x (List·Memᴰ·cases-cons m);
-          from = λ x m. whence ih x (List·Memᴰ·cases-cons m);
-          ordered = then (λ x m. later b x (ih .from x m)) (ih .ordered);
-        })
+use Rattle.repeats.specs.Runs.{Run, IsRun, noRun}
+use Rattle.repeats.specs.Report.{Before, earlier, shorter, Ordered, none, runsAfter, runs}
+use Rattle.repeats.specs.Roots.{AtMost, reports, accepted, reported}
+use Rattle.repeats.specs.Gathered.{reportOf, reportAt, insert, put, gathered}
+use Rattle.repeats.proofs.Ordering.{insert-length, Fresh, Inserted, inserted}
+use Rattle.repeats.proofs.Listing.{same-run, lists-only}
+use Rattle.repeats.proofs.Accepting.{accepts-told}
+use Rattle.repeats.proofs.Roots.{Reporter, accepted-within, reported-run, run-reported, reported-once, one-order}
 
 -- ---- one place after the other
 
@@ -140,12 +47,12 @@ gathers-how top y i = go (test (accepted top y false i)) (test (accepted top y t
 -- the runs reported by places below i
 pub record Holds (top : ℕ) (y : List ℕ) (i : ℕ) (l : List Run) : Type 0 where
   pub ordered : Ordered l
-  pub from : (r : Run) → List·Memᴰ r l → (a : Root top y r) × (a .place < i)
+  pub from : (r : Run) → List·Memᴰ r l → (a : Reporter top y r) × (a .place < i)
   pub to : (o : Bool) (k : ℕ) → k < i → accepted top y o k ≡ true → List·Memᴰ (reported top y o k) l
 
 module _ {top : ℕ} {y : List ℕ} (B : AtMost top y) where
-  root-run : {r : Run} → Root top y r → IsRun y r
-  root-run a = rw (a .says) at (reported-run top y B (a .reverse) (a .place) (a .ok))
+  reporter-run : {r : Run} → Reporter top y r → IsRun y r
+  reporter-run a = rw (a .says) at (reported-run top y B (a .reverse) (a .place) (a .ok))
 
   compare : (r q : Run) → IsRun y r → IsRun y q → r ≢ q → Before r q ⊎ Before q r
   compare r q a b n = go (tri (r .start) (q .start)) (tri (r .period) (q .period))
@@ -161,7 +68,7 @@ module _ {top : ℕ} {y : List ℕ} (B : AtMost top y) where
     pub fresh : (o : Bool) → accepted top y o i ≡ true → Fresh (reported top y o i) l
     fresh o ok q m =
         let F = H .from q m in
-        compare (reported top y o i) q (reported-run top y B o i ok) (root-run (F .0))
+        compare (reported top y o i) q (reported-run top y B o i ok) (reporter-run (F .0))
         (λ e. omega (arith, F .1, reported-once top y B (record { reverse = o; place = i; ok = ok; says = e }) (F .0) .0))
 
     add : (o : Bool) → accepted top y o i ≡ true → Holds top y (suc i) (insert (reported top y o i) l)
@@ -173,7 +80,7 @@ module _ {top : ℕ} {y : List ℕ} (B : AtMost top y) where
         I : Inserted r l (insert r l)
         I = inserted r l (H .ordered) (fresh o ok)
 
-        whence : (q : Run) → (q ≡ r) ⊎ List·Memᴰ q l → (a : Root top y q) × (a .place < suc i)
+        whence : (q : Run) → (q ≡ r) ⊎ List·Memᴰ q l → (a : Reporter top y q) × (a .place < suc i)
         whence q (inl e) = (record { reverse = o; place = i; ok = ok; says = sym e }, omega arith)
         whence q (inr m) = let F = H .from q m in (F .0, omega (arith, F .1))
 
@@ -210,17 +117,17 @@ module _ {top : ℕ} {y : List ℕ} (B : AtMost top y) where
   pub gathered-is : gathered top y (length y) ≡ runs y
   gathered-is =
       lists-only y (gathered top y (length y))
-      (record { runs-only = λ r m. root-run (H .from r m .0); every = λ r I. there (run-reported top y B r I); ordered = H .ordered })
+      (record { runs-only = λ r m. reporter-run (H .from r m .0); every = λ r I. there (run-reported top y B r I); ordered = H .ordered })
     where
       H : Holds top y (length y) (gathered top y (length y))
       H = gathered-holds (length y)
 
-      there : {r : Run} → Root top y r → List·Memᴰ r (gathered top y (length y))
+      there : {r : Run} → Reporter top y r → List·Memᴰ r (gathered top y (length y))
       there a = Memᴰ·cast (sym (a .says)) (H .to (a .reverse) (a .place) (accepted-within top y (a .reverse) (a .place) (a .ok) .1) (a .ok))
 
 -- ---- fewer than letters
 
-pub put-most : (r : Run) (l : List Run) → length (put r l) ≤ suc (length l)
+put-most : (r : Run) (l : List Run) → length (put r l) ≤ suc (length l)
 put-most r l = go (same? (r .period) 0)
   where
     go : Same (r .period) 0 → length (put r l) ≤ suc (length l)

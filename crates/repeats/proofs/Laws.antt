@@ -10,28 +10,35 @@ use borrow.Author.Tests.{ltb-true, eq-eqb, ne-eqb}
 use Rattle.suffix.specs.Ranks.{orientedFrom}
 use Rattle.suffix.specs.Search.{allBelow, anyBelow}
 use Rattle.suffix.specs.Order.{lcp, lce}
+use Rattle.suffix.specs.Periods.{hasPeriod}
 use Rattle.refusal.specs.declared.Refusal.the-variants.{TooLong, TableLength, ListLengths, TooManyRuns}
 use Rattle.refusal.specs.Numbers.{numberIf, firstOf}
 use Rattle.refusal.specs.Conditions.{tooLong}
 use Rattle.refusal.proofs.Numbers.{unless-refused}
-use Rattle.repeats.specs.Runs.{Run, IsRun, hasPeriod, isRun, runAt, runsFrom, runsAfter, runs}
+use Rattle.repeats.specs.Runs.{Run, IsRun, isRun}
+use Rattle.repeats.specs.Report.{ListsRuns, runAt, runsFrom, runsAfter, runs}
 use Rattle.repeats.specs.Refusals.{listLengthsDiffer, workLengthOff, tooManyRuns, runsRefusal}
 use Rattle.repeats.specs.Answers.{zeros, listsAfter, workAfter}
 use Rattle.repeats.specs.Claims as claims
-use Rattle.repeats.specs.Claims.{ListsRuns}
 use Rattle.repeats.proofs.Meaning.{run-told, tell-run}
+use Rattle.repeats.proofs.Reversed.{reversed-run}
+use Rattle.repeats.proofs.Ordering.{before-told, before-yes}
 use Rattle.repeats.proofs.Listing.{lists-runs, lists-only}
-use Rattle.repeats.proofs.Roots.{accepted-within, reported-run, run-reported, reported-once, one-order, reversed-run}
+use Rattle.repeats.proofs.Roots.{accepted-within, reported-run, reported-root, root-reports, run-root, root-once, one-order}
 use Rattle.repeats.proofs.Gathering.{gathered-is, fewer-runs, runs-most}
+use Rattle.repeats.proofs.AnswerExamples
 
 pub testsTellRuns : claims.TestsTellRuns
 testsTellRuns y r = (run-told y r, tell-run y r)
+
+pub testTellsOrder : claims.TestTellsOrder
+testTellsOrder r q = (before-told r q, before-yes)
 
 pub reportIsExact : claims.ReportIsExact
 reportIsExact y = (lists-runs y, lists-only y)
 
 pub fewerRunsThanLetters : claims.FewerRunsThanLetters
-fewerRunsThanLetters = fewer-runs
+fewerRunsThanLetters y h = omega (arith, fewer-runs y (omega arith))
 
 pub bananaHasOneRun : claims.BananaHasOneRun
 unfolding runs runsAfter runsFrom runAt isRun hasPeriod allBelow anyBelow lce lcp
@@ -54,10 +61,11 @@ reversedHasTheSame top y B = (both, sym (lists-only (orientedFrom top true y) (r
 pub rootsLeadToRuns : claims.RootsLeadToRuns
 rootsLeadToRuns top y B =
     record {
-      sound = reported-run top y B;
-      complete = run-reported top y B;
-      once = reported-once top y B;
-      within = accepted-within top y;
+      some = run-root top y B;
+      once = root-once top y B;
+      sound = λ o i e. (reported-run top y B o i e, reported-root top y B o i e);
+      complete = root-reports top y B;
+      within = λ o i e. let w = accepted-within top y o i e in (omega arith, omega arith);
       one-order = one-order top y B;
       gathers = gathered-is B;
     }

@@ -1,9 +1,14 @@
 pub mod Examples
+pub mod AnswerExamples
 pub mod Periods
 pub mod Rotations
 pub mod Orders
 pub mod Meaning
+pub mod Reversed
+pub mod Ordering
 pub mod Listing
+pub mod Accepting
+pub mod Longest
 pub mod Roots
 pub mod Gathering
 pub mod Laws

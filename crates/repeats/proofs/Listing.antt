@@ -1,105 +1,38 @@
 -- The report lists each run once, by start and then by period, and no other list does.
-use mathlib.Core.Path.{_≡_, refl, sym, ap, _∙_}
+use mathlib.Core.Path.{_≡_, refl, sym, _∙_}
 use mathlib.Core.Logic.{_≢_, _⊎_, inl, inr}
 use mathlib.Core.Bool.{true, false, true≢false}
-use mathlib.Core.List.{List, [], _∷_, _++_, List·Memᴰ, List·Memᴰ·head, List·Memᴰ·tail, List·Memᴰ·not-nil, List·Memᴰ·cases-cons, List·Memᴰ·append-cases, Memᴰ·append-left, Memᴰ·append-right, Memᴰ·cast}
+use mathlib.Core.List.{List, _∷_, _++_, List·Memᴰ, List·Memᴰ·head, List·Memᴰ·tail, List·Memᴰ·not-nil, List·Memᴰ·cases-cons, List·Memᴰ·append-cases, Memᴰ·append-left, Memᴰ·append-right}
 use Prim.Native.Nat.{ℕ, zero, suc, _+_, _-_, _≤_, _<_}
 use native.Mathlib.Omega.{arith}
 use lib.ListN.{length}
-use Rattle.suffix.proofs.Cases.{Tri, lt, eq, gt, tri, Same, same, other, same?, Test, holds, fails, test}
-use Rattle.suffix.proofs.Sequence.{Match}
-use Rattle.suffix.proofs.Order.{extended, extended-in, extended-out, lce-is}
-use Rattle.repeats.specs.Runs.{Run, IsRun, isRun, runAt, runsFrom, runsAfter, runs}
-use Rattle.repeats.specs.Claims.{Before, earlier, shorter, Ordered, none, then, ListsRuns}
-use Rattle.repeats.proofs.Periods.{RunOf}
-use Rattle.repeats.proofs.Orders.{alike-run}
-use Rattle.repeats.proofs.Meaning.{run-told, tell-run, run-of, letters-alike}
-
--- ---- the order
-
-pub before-not : {r q : Run} → Before r q → Before q r → ⊥
-before-not (earlier h) (earlier g) = omega arith
-before-not (earlier h) (shorter e g) = omega arith
-before-not (shorter e h) (earlier g) = omega arith
-before-not (shorter e h) (shorter u g) = omega arith
-
-pub before-trans : {r q t : Run} → Before r q → Before q t → Before r t
-before-trans (earlier h) (earlier g) = earlier (omega arith)
-before-trans (earlier h) (shorter e g) = earlier (omega arith)
-before-trans (shorter e h) (earlier g) = earlier (omega arith)
-before-trans (shorter e h) (shorter u g) = shorter (omega arith) (omega arith)
-
-ordered-append : {s t : List Run} → Ordered s → Ordered t → ((r q : Run) → List·Memᴰ r s → List·Memᴰ q t → Before r q) → Ordered (s ++ t)
-ordered-append none b h = b
-ordered-append {t = t} (then {r = r} {l = l} g a) b h =
-    then (λ q m. go q (List·Memᴰ·append-cases l m)) (ordered-append a b (λ x z m k. h x z (List·Memᴰ·tail m) k))
-  where
-    go : (q : Run) → List·Memᴰ q l ⊎ List·Memᴰ q t → Before r q
-    go q (inl m) = g q m
-    go q (inr m) = h r q (List·Memᴰ·head refl) m
-
--- what stands in a longer list besides its first entry, which comes before all of l, stands in its rest
-tails : {r : Run} {l : List Run} → ((q : Run) → List·Memᴰ q l → Before r q) → {q x : Run} {m : List Run} → r ≡ q → List·Memᴰ x l → (x ≡ q) ⊎ List·Memᴰ x m → List·Memᴰ x m
-tails {r} u e k (inl w) = absurd (let b = u r (Memᴰ·cast (e ∙ sym w) k) in before-not b b)
-tails u e k (inr j) = j
-
--- two ordered lists with the same entries are one
-ordered-unique : (l m : List Run) → Ordered l → Ordered m → ((r : Run) → List·Memᴰ r l → List·Memᴰ r m) → ((r : Run) → List·Memᴰ r m → List·Memᴰ r l) → l ≡ m
-ordered-unique [] [] a b h g = refl
-ordered-unique [] (q ∷ m) a b h g = absurd (List·Memᴰ·not-nil (g q (List·Memᴰ·head refl)))
-ordered-unique (r ∷ l) [] a b h g = absurd (List·Memᴰ·not-nil (h r (List·Memᴰ·head refl)))
-ordered-unique (r ∷ l) (q ∷ m) (then u a) (then v b) h g =
-    join (ordered-unique l m a b (λ x k. tails u heads k (List·Memᴰ·cases-cons (h x (List·Memᴰ·tail k)))) (λ x k. tails v (sym heads) k (List·Memᴰ·cases-cons (g x (List·Memᴰ·tail k)))))
-  where
-    heads : r ≡ q
-    heads = go (List·Memᴰ·cases-cons (h r (List·Memᴰ·head refl))) (List·Memᴰ·cases-cons (g q (List·Memᴰ·head refl)))
-      where
-        go : (r ≡ q) ⊎ List·Memᴰ r m → (q ≡ r) ⊎ List·Memᴰ q l → r ≡ q
-        go (inl e) k = e
-        go (inr j) (inl e) = sym e
-        go (inr j) (inr k) = absurd (before-not (v r j) (u q k))
-
-    join : l ≡ m → r ∷ l ≡ q ∷ m
-    join e = rw (heads, e)
+use Rattle.suffix.proofs.Cases.{Same, same, other, same?, Test, holds, fails, test}
+use Rattle.suffix.proofs.Order.{extended, lce-is}
+use Rattle.repeats.specs.Runs.{Run, IsRun, isRun}
+use Rattle.repeats.specs.Report.{earlier, shorter, Ordered, none, then, ListsRuns, runAt, runsFrom, runsAfter, runs}
+use Rattle.repeats.proofs.Periods.{RunOf, run-match}
+use Rattle.repeats.proofs.Orders.{pattern-run}
+use Rattle.repeats.proofs.Meaning.{run-told, tell-run, run-of, letters-pattern, letters-end}
+use Rattle.repeats.proofs.Ordering.{ordered-append, ordered-unique}
 
 pub run-eq : {r q : Run} → r .start ≡ q .start → r .end ≡ q .end → r .period ≡ q .period → r ≡ q
 run-eq a b c = λ i. record { start = a i; end = b i; period = c i }
 
 module _ (y : List ℕ) where
   -- start and period tell the end
-  pub run-at : {r : Run} → IsRun y r → runAt y (r .start) (r .period) ≡ r
+  run-at : {r : Run} → IsRun y r → runAt y (r .start) (r .period) ≡ r
   unfolding runAt
-  run-at {r} I = run-eq refl (omega (arith, lce-is y s (s + p) (omega (arith, R .pos)) (omega (arith, R .long, R .fits)) (omega (arith, R .long, R .fits)) m match, R .long)) refl
-    where
-      s : ℕ
-      s = r .start
-
-      e : ℕ
-      e = r .end
-
-      p : ℕ
-      p = r .period
-
-      m : ℕ
-      m = e - (s + p)
-
-      R : RunOf (extended y) (length y) s e p
-      R = alike-run (letters-alike y) (run-of y I)
-
-      at : (x z : ℕ) → x ≡ z → extended y x ≡ extended y z
-      at x z q = ap (extended y) q
-
-      differ : Tri e (length y) → extended y (s + m) ≡ extended y (s + p + m) → ⊥
-      differ (lt h) q = R .right h (at e (s + p + m) (omega (arith, R .long)) ∙ sym q ∙ at (s + m) (e - p) (omega (arith, R .long)))
-      differ (eq h) q = omega (arith, q, extended-in y (s + m) (omega (arith, R .long, R .pos)), extended-out y (s + p + m) (omega (arith, R .long)))
-      differ (gt h) q = omega (arith, R .fits)
-
-      match : Match (extended y) s (s + p) m
-      match =
-          record {
-            same = record { on = λ k h. R .same .on (s + k) (omega arith) (omega arith) ∙ at (s + k + p) (s + p + k) (omega arith) };
-            differ = differ (tri e (length y));
-          }
+  run-at {r} I =
+      let s = r .start in
+      let p = r .period in
+      let R : RunOf (extended y) (length y) s (r .end) p = pattern-run (letters-pattern y) (run-of y r I) in
+      run-eq refl
+      (omega (
+        arith,
+        lce-is y s (s + p) (omega (arith, R .pos)) (omega (arith, R .long, R .fits)) (omega (arith, R .long, R .fits)) (r .end - p - s) (run-match (extended y) (letters-end y) R s (omega arith) (omega (arith, R .long))),
+        R .long,
+      ))
+      refl
 
   pub same-run : {r q : Run} → IsRun y r → IsRun y q → r .start ≡ q .start → r .period ≡ q .period → r ≡ q
   same-run {r} {q} a b e f = let z : runAt y (r .start) (r .period) ≡ runAt y (q .start) (q .period) = rw (e, f) in sym (run-at a) ∙ z ∙ run-at b

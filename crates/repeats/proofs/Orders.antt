@@ -6,22 +6,22 @@ use native.Mathlib.Omega.{arith}
 use Rattle.suffix.proofs.Cases.{Tri, lt, eq, gt, tri}
 use Rattle.suffix.proofs.Sequence.{Match, asym, less-trans, match-unique}
 use Rattle.suffix.proofs.Edges.{NextAt}
-use Rattle.repeats.proofs.Periods.{Ends, Period, RunOf, Left, RootOf, root-last, told}
+use Rattle.repeats.proofs.Periods.{Ends, PeriodIn, RunOf, Left, RootOf, root-last, told}
 use Rattle.repeats.proofs.Rotations.{Found, complete}
 
 -- two sequences whose first n letters are equal at the same places
-pub record Alike (f g : ℕ → ℕ) (n : ℕ) : Type 0 where
+pub record SamePattern (f g : ℕ → ℕ) (n : ℕ) : Type 0 where
   pub to : (k l : ℕ) → k < n → l < n → f k ≡ f l → g k ≡ g l
   pub from : (k l : ℕ) → k < n → l < n → g k ≡ g l → f k ≡ f l
 
-pub alike-sym : {f g : ℕ → ℕ} {n : ℕ} → Alike f g n → Alike g f n
-alike-sym A = record { to = A .from; from = A .to }
+pub pattern-sym : {f g : ℕ → ℕ} {n : ℕ} → SamePattern f g n → SamePattern g f n
+pattern-sym A = record { to = A .from; from = A .to }
 
-pub alike-trans : {f g h : ℕ → ℕ} {n : ℕ} → Alike f g n → Alike g h n → Alike f h n
-alike-trans A B = record { to = λ k l a b e. B .to k l a b (A .to k l a b e); from = λ k l a b e. A .from k l a b (B .from k l a b e) }
+pub pattern-trans : {f g h : ℕ → ℕ} {n : ℕ} → SamePattern f g n → SamePattern g h n → SamePattern f h n
+pattern-trans A B = record { to = λ k l a b e. B .to k l a b (A .to k l a b e); from = λ k l a b e. A .from k l a b (B .from k l a b e) }
 
-pub alike-left : {f g : ℕ → ℕ} {n i j c x : ℕ} → Alike f g n → i ≤ j → j ≤ n → Left f i j c x → Left g i j c x
-alike-left {i = i} {j} {c} {x} A h fits L =
+pub pattern-left : {f g : ℕ → ℕ} {n i j c x : ℕ} → SamePattern f g n → i ≤ j → j ≤ n → Left f i j c x → Left g i j c x
+pattern-left {i = i} {j} {c} {x} A h fits L =
     record {
       most = L .most;
       room = L .room;
@@ -29,17 +29,17 @@ alike-left {i = i} {j} {c} {x} A h fits L =
       stop = λ a b e. L .stop a b (A .from (i - suc x) (j - suc x) (omega arith) (omega arith) e);
     }
 
-alike-period : {f g : ℕ → ℕ} {n s e p : ℕ} → Alike f g n → e ≤ n → Period f s e p → Period g s e p
-alike-period {p = p} A h P = record { on = λ t a b. A .to t (t + p) (omega arith) (omega arith) (P .on t a b) }
+pattern-period : {f g : ℕ → ℕ} {n s e p : ℕ} → SamePattern f g n → e ≤ n → PeriodIn f s e p → PeriodIn g s e p
+pattern-period {p = p} A h P = record { on = λ t a b. A .to t (t + p) (omega arith) (omega arith) (P .on t a b) }
 
-pub alike-run : {f g : ℕ → ℕ} {n s e p : ℕ} → Alike f g n → RunOf f n s e p → RunOf g n s e p
-alike-run {n = n} {s} {e} {p} A r =
+pub pattern-run : {f g : ℕ → ℕ} {n s e p : ℕ} → SamePattern f g n → RunOf f n s e p → RunOf g n s e p
+pattern-run {n = n} {s} {e} {p} A r =
     record {
       pos = r .pos;
       long = r .long;
       fits = r .fits;
-      same = alike-period A (r .fits) (r .same);
-      least = λ q a b P. r .least q a b (alike-period (alike-sym A) (r .fits) P);
+      same = pattern-period A (r .fits) (r .same);
+      least = λ q a b P. r .least q a b (pattern-period (pattern-sym A) (r .fits) P);
       left = λ h q. r .left h (A .from (s - 1) (s - 1 + p) (omega (arith, r .long, r .fits, r .pos)) (omega (arith, r .long, r .fits, r .pos)) q);
       right = λ h q. r .right h (A .from e (e - p) h (omega (arith, r .long, r .fits, r .pos)) q);
     }
@@ -50,15 +50,15 @@ pub record Reverse (f g : ℕ → ℕ) (n c : ℕ) : Type 0 where
   pub ends′ : Ends g n
   pub sum : (k : ℕ) → k < n → f k + g k ≡ c
 
-pub reverse-alike : {f g : ℕ → ℕ} {n c : ℕ} → Reverse f g n c → Alike f g n
-reverse-alike Q =
+pub reverse-pattern : {f g : ℕ → ℕ} {n c : ℕ} → Reverse f g n c → SamePattern f g n
+reverse-pattern Q =
     record {
       to = λ k l a b e. omega (arith, Q .sum k a, Q .sum l b);
       from = λ k l a b e. omega (arith, Q .sum k a, Q .sum l b);
     }
 
 module _ (f g : ℕ → ℕ) {n c : ℕ} (Q : Reverse f g n c) where
-  -- R3, in both orders: in the second the run ends before n
+  -- a run has a root in one of them: in the second it ends before n
   pub complete-in : {s e p : ℕ} → RunOf f n s e p → Found f s e p ⊎ ((e < n) × Found g s e p)
   complete-in {s} {e} {p} r = go (tri (f e) (f (e - p)))
     where
@@ -78,7 +78,7 @@ module _ (f g : ℕ → ℕ) {n c : ℕ} (Q : Reverse f g n c) where
       go (eq w) = absurd (r .right (inside (omega arith)) w)
       go (gt w) =
           let h : e < n = inside (omega arith) in
-          inr (h, complete g (alike-run (reverse-alike Q) r) (omega (arith, Q .sum e h, Q .sum (e - p) (omega arith))))
+          inr (h, complete g (pattern-run (reverse-pattern Q) r) (omega (arith, Q .sum e h, Q .sum (e - p) (omega arith))))
 
   -- a run has its roots in one order only
   pub order-once : {i j m x k l w z : ℕ} → RootOf f n i j m x → RootOf g n k l w z → l + w < n → j + m ≡ l + w → j - i ≡ l - k → ⊥
@@ -93,7 +93,7 @@ module _ (f g : ℕ → ℕ) {n c : ℕ} (Q : Reverse f g n c) where
         ap g {x = i + m} {y = k + w} (omega (arith, a .next .after, b .next .after)),
       )
 
-  -- R5: a place is a root in one order only
+  -- a place is a root in one order only
   pub place-once : {i j m x k w z : ℕ} → RootOf f n i j m x → RootOf g n i k w z → k + w < n → ⊥
   place-once {i} {j} {m} {x} {k} {w} {z} a b h =
       omega (arith, told f a, told g b, Q .sum (k + w) h, Q .sum (i + w) (omega (arith, b .next .after)), ap f meet-high, ap f meet-low)
@@ -129,8 +129,8 @@ module _ (f g : ℕ → ℕ) {n c : ℕ} (Q : Reverse f g n c) where
       other : Match f i j w
       other =
           record {
-            same = record { on = λ t u. (reverse-alike Q) .from (i + t) (k + t) (omega (arith, b .next .after)) (omega arith) (b .match .same .on t u) ∙ ap f (omega (arith, one, two)) };
-            differ = λ e. b .match .differ ((reverse-alike Q) .to (i + w) (k + w) (omega (arith, b .next .after)) h (e ∙ ap f (omega (arith, one, two))));
+            same = record { on = λ t u. (reverse-pattern Q) .from (i + t) (k + t) (omega (arith, b .next .after)) (omega arith) (b .match .same .on t u) ∙ ap f (omega (arith, one, two)) };
+            differ = λ e. b .match .differ ((reverse-pattern Q) .to (i + w) (k + w) (omega (arith, b .next .after)) h (e ∙ ap f (omega (arith, one, two))));
           }
 
       meet : m ≡ w
@@ -142,9 +142,9 @@ module _ (f g : ℕ → ℕ) {n c : ℕ} (Q : Reverse f g n c) where
       meet-low : i + m ≡ i + w
       meet-low = omega (arith, meet)
 
--- R4: in one order two roots of one run are one place
-pub root-once : (f : ℕ → ℕ) {n i j m x k l w z : ℕ} → RootOf f n i j m x → RootOf f n k l w z → i - x ≡ k - z → j - i ≡ l - k → i ≡ k
-root-once f {n} {i} {j} {m} {x} {k} {l} {w} {z} a b e q = go (tri i k)
+-- in one order two roots of one run are one place
+pub same-place : (f : ℕ → ℕ) {n i j m x k l w z : ℕ} → RootOf f n i j m x → RootOf f n k l w z → i - x ≡ k - z → j - i ≡ l - k → i ≡ k
+same-place f {n} {i} {j} {m} {x} {k} {l} {w} {z} a b e q = go (tri i k)
   where
     cross : {s t u v : ℕ} → NextAt f s u → NextAt f t v → s < t → t < u → u < v → ⊥
     cross {s} {t} {u} {v} p r h h′ h″ = asym f (p .smaller) (less-trans f (p .nearest t h h′) (r .nearest u h′ h″))

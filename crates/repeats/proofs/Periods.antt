@@ -1,4 +1,4 @@
--- Periods and runs of an endless sequence f, and what a root reports.
+-- Runs of an endless sequence f, and what a root of it reports.
 use mathlib.Core.Path.{_≡_, sym, ap, _∙_}
 use mathlib.Core.Logic.{_≢_}
 use Prim.Native.Nat.{ℕ, suc, _+_, _-_, _≤_, _<_}
@@ -6,6 +6,7 @@ use native.Mathlib.Omega.{arith}
 use Rattle.suffix.proofs.Cases.{Tri, lt, eq, gt, tri, le-unless}
 use Rattle.suffix.proofs.Sequence.{Agree, Less, Match, match-sym, match-letter, less-match}
 use Rattle.suffix.proofs.Edges.{NextAt, next-edge, unbordered}
+use Rattle.repeats.proofs.Examples
 
 module _ (f : ℕ → ℕ) where
   -- letters before n, none from n on
@@ -14,7 +15,7 @@ module _ (f : ℕ → ℕ) where
     pub out : (k : ℕ) → n ≤ k → f k ≡ 0
 
   -- letters p apart inside [s, e) are equal
-  pub record Period (s e p : ℕ) : Type 0 where
+  pub record PeriodIn (s e p : ℕ) : Type 0 where
     pub on : (t : ℕ) → s ≤ t → t + p < e → f t ≡ f (t + p)
 
   -- a run of n letters: start, end (exclusive), period
@@ -22,8 +23,8 @@ module _ (f : ℕ → ℕ) where
     pub pos : 0 < p
     pub long : s + p + p ≤ e
     pub fits : e ≤ n
-    pub same : Period s e p
-    pub least : (q : ℕ) → 0 < q → q < p → Period s e q → ⊥
+    pub same : PeriodIn s e p
+    pub least : (q : ℕ) → 0 < q → q < p → PeriodIn s e q → ⊥
     pub left : 0 < s → f (s - 1) ≢ f (s - 1 + p)
     pub right : e < n → f e ≢ f (e - p)
 
@@ -55,8 +56,8 @@ module _ (f : ℕ → ℕ) where
   at-same : (x y : ℕ) → x ≡ y → f x ≡ f y
   at-same x y e = ap f e
 
-  -- R1: a root has no shorter period
-  pub root-least : {i j : ℕ} → NextAt f i j → (q : ℕ) → 0 < q → q < j - i → Period i j q → ⊥
+  -- a root has no shorter period
+  root-least : {i j : ℕ} → NextAt f i j → (q : ℕ) → 0 < q → q < j - i → PeriodIn i j q → ⊥
   root-least {i} {j} N q a b P =
       let s : Less f i (i + q) = N .nearest (i + q) (omega arith) (omega arith) in
       let w : i + q + s .at < j = unbordered f (next-edge f N) (omega arith) (omega arith) (less-match f s) in
@@ -74,7 +75,30 @@ module _ (f : ℕ → ℕ) where
       le-unless (j + m) n
       (λ w. omega (arith, q .on (n - j) (omega arith), E .inn (i + (n - j)) (omega arith), E .out (j + (n - j)) (omega arith)))
 
-  -- R2: what a root reports is a run
+  -- from a place of a run, the letters agree with those a period on up to its end, and not further
+  pub run-agree : {n s e p : ℕ} → RunOf n s e p → (i : ℕ) → s ≤ i → i + p ≤ e → Agree f i (i + p) (e - p - i)
+  run-agree {p = p} r i a b = record { on = λ k h. r .same .on (i + k) (omega arith) (omega arith) ∙ at-same (i + k + p) (i + p + k) (omega arith) }
+
+  pub run-match : {n s e p : ℕ} → Ends n → RunOf n s e p → (i : ℕ) → s ≤ i → i + p ≤ e → Match f i (i + p) (e - p - i)
+  run-match {n} {s} {e} {p} E r i a b = record { same = run-agree r i a b; differ = λ q. differ (tri e n) (at-same (e - p) (i + (e - p - i)) (omega arith) ∙ q ∙ at-same (i + p + (e - p - i)) e (omega arith)) }
+    where
+      differ : Tri e n → f (e - p) ≡ f e → ⊥
+      differ (lt h) q = r .right h (sym q)
+      differ (eq h) q = omega (arith, E .inn (e - p) (omega (arith, r .pos)), E .out e (omega arith))
+      differ (gt h) q = omega (arith, r .fits)
+
+  -- before a place of its first period, they agree back to its start, and not further
+  pub run-left : {n s e p : ℕ} → RunOf n s e p → (i : ℕ) → s < i → i ≤ s + p → Left i (i + p) (suc p) (i - s)
+  run-left {n} {s} {e} {p} r i a b =
+      record {
+        most = omega arith;
+        room = omega arith;
+        same = λ k h. r .same .on (i - suc k) (omega arith) (omega (arith, r .long)) ∙ at-same (i - suc k + p) (i + p - suc k) (omega arith);
+        stop = λ u v q.
+            r .left (omega arith) (at-same (s - 1) (i - suc (i - s)) (omega arith) ∙ q ∙ at-same (i + p - suc (i - s)) (s - 1 + p) (omega arith));
+      }
+
+  -- what a root reports is a run
   pub sound : {n i j m x : ℕ} → Ends n → RootOf n i j m x → RunOf n (i - x) (j + m) (j - i)
   sound {n} {i} {j} {m} {x} E r =
       record {

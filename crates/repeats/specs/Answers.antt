@@ -7,7 +7,8 @@ use lib.ListN.{length, getD, replicate}
 use Rattle.suffix.specs.Search.{tabulate}
 use Rattle.refusal.specs.Numbers.{unlessRefused}
 use Rattle.refusal.specs.Answers.{Figures, answered}
-use Rattle.repeats.specs.Runs.{Run, runs}
+use Rattle.repeats.specs.Runs.{Run, noRun}
+use Rattle.repeats.specs.Report.{runs}
 use Rattle.repeats.specs.Refusals.{Lists, runsRefusal}
 
 -- it "returns their number"
@@ -16,7 +17,7 @@ answer y work lists = answered (runsRefusal y work lists) (length (runs y))
 
 -- entry k of three lists is run k; "Entries beyond the number are 0."
 abbrev pub entryOf : List Run → ℕ → Run
-entryOf l k = getD l k (record { start = 0; end = 0; period = 0 })
+entryOf l k = getD l k noRun
 
 unfoldable pub listsOf : List Run → ℕ → Lists
 listsOf l size =

@@ -7,7 +7,7 @@ use lib.ListN.{length}
 use Rattle.refusal.specs.declared.Refusal.the-variants.{TooLong, TableLength, ListLengths, TooManyRuns}
 use Rattle.refusal.specs.Numbers.{firstOf, numberIf}
 use Rattle.refusal.specs.Conditions.{tooLong, tableLengthOff}
-use Rattle.repeats.specs.Runs.{runs}
+use Rattle.repeats.specs.Report.{runs}
 
 -- "three lent 32-bit lists"
 pub record Lists : Type 0 where

@@ -19,10 +19,11 @@ use Rattle.suffix.proofs.Laws.{allRowsGiveAllEntries}
 use Rattle.refusal.specs.declared.Verdict.{Verdict}
 use Rattle.build.specs.Built.{TablesBuilt}
 use Rattle.build.proofs.Alone.{Lengths, whole}
-use Rattle.repeats.specs.Runs.{Run, runs}
+use Rattle.repeats.specs.Runs.{Run}
+use Rattle.repeats.specs.Report.{runs, Before}
+use Rattle.repeats.specs.Roots.{AtMost}
+use Rattle.repeats.specs.Gathered.{reportOf, reportAt, put, gathered}
 use Rattle.repeats.specs.Refusals.{Lists}
-use Rattle.repeats.specs.Roots.{reportOf, reportAt, put, gathered}
-use Rattle.repeats.specs.Claims.{Before, AtMost}
 use Rattle.repeats.proofs.Gathering.{Holds, Gathers, puts, leaves, gathers-how, gathered-holds, gathered-is, gathered-few, fresh}
 use Rattle.runs.specs.States.{entryIn, entriesFrom, entries, Has, Within, Insertable, Put, Tabled}
 use Rattle.runs.proofs.Inserting.{entries-length, entry-mem, entries-ordered}

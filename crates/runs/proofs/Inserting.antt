@@ -11,11 +11,12 @@ use lib.Seq.{getD-set-same, getD-set-other}
 use borrow.Author.Tests.{lt-ltb, le-ltb, ltb-true, eq-eqb, ne-eqb}
 use Rattle.suffix.proofs.Cases.{Tri, lt, eq, gt, tri, Same, same, other, same?, both-true}
 use Rattle.repeats.specs.Runs.{Run}
+use Rattle.repeats.specs.Report.{before, Before, earlier, shorter, Ordered, then}
+use Rattle.repeats.specs.Gathered.{insert}
 use Rattle.repeats.specs.Refusals.{Lists}
-use Rattle.repeats.specs.Roots.{before, insert}
-use Rattle.repeats.specs.Claims.{Before, earlier, shorter, Ordered, then}
-use Rattle.repeats.proofs.Listing.{before-trans, run-eq}
-use Rattle.repeats.proofs.Gathering.{before-yes, insert-at, put-none, put-one}
+use Rattle.repeats.proofs.Ordering.{before-trans, before-yes, insert-at}
+use Rattle.repeats.proofs.Listing.{run-eq}
+use Rattle.repeats.proofs.Gathering.{put-none, put-one}
 use Rattle.runs.specs.States.{entryIn, entriesFrom, entries, stored, Has, passes, Insertable, Put}
 
 -- ---- the order as the code tests it

@@ -5,8 +5,10 @@ use mathlib.Core.List.{List}
 use Prim.Native.Nat.{ℕ, suc, _+_, _-_, _≤_, _<_}
 use native.Mathlib.Omega.{arith}
 use lib.ListN.{length}
-use Rattle.repeats.specs.Roots.{leftOf, reports, noRun, reportOf}
-use Rattle.repeats.proofs.Roots.{Accepts, tell-accepts, accepts-not, left-most}
+use Rattle.repeats.specs.Runs.{noRun}
+use Rattle.repeats.specs.Roots.{leftOf, reports}
+use Rattle.repeats.specs.Gathered.{reportOf}
+use Rattle.repeats.proofs.Accepting.{Accepts, tell-accepts, accepts-not, left-most}
 use Rattle.runs.specs.States.{Judged}
 
 module _ (y : List ℕ) (reverse : Bool) (i j m : ℕ) where

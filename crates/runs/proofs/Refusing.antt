@@ -17,7 +17,8 @@ use Rattle.refusal.specs.Numbers.{numberOf, numberIf, firstOf, unlessRefused}
 use Rattle.refusal.specs.Conditions.{tooLong}
 use Rattle.refusal.proofs.Numbers.{positive, neither}
 use Rattle.refusal.proofs.Answers.{answered-refused}
-use Rattle.repeats.specs.Runs.{Run, runs}
+use Rattle.repeats.specs.Runs.{Run}
+use Rattle.repeats.specs.Report.{runs}
 use Rattle.repeats.specs.Refusals.{Lists, workLengthOff, listLengthsDiffer, tooManyRuns, lengthsRefusal, runsRefusal}
 use Rattle.repeats.specs.Answers.{answer, listsOf, listsAfter, zeros}
 use Rattle.repeats.proofs.Laws.{refusalsLeave}

@@ -7,7 +7,8 @@ use native.Mathlib.Omega.{arith}
 use Rattle.suffix.proofs.Cases.{Same, same, other, same?}
 use Rattle.repeats.specs.Roots.{leftOf}
 use Rattle.repeats.proofs.Periods.{left-unique}
-use Rattle.repeats.proofs.Meaning.{letter, left-is}
+use Rattle.repeats.proofs.Meaning.{letter}
+use Rattle.repeats.proofs.Accepting.{left-is}
 
 pub record Agreeing (y : List ℕ) (i j x : ℕ) : Type 0 where
   pub most : x ≤ suc (j - i)

@@ -10,9 +10,10 @@ use Rattle.suffix.specs.Ranks.{oriented}
 use Rattle.suffix.specs.Search.{tabulate}
 use Rattle.suffix.specs.Nearest.{next, nextMatch}
 use Rattle.repeats.specs.Runs.{Run}
+use Rattle.repeats.specs.Report.{Before, before}
+use Rattle.repeats.specs.Roots.{leftOf, accepts}
+use Rattle.repeats.specs.Gathered.{put}
 use Rattle.repeats.specs.Refusals.{Lists}
-use Rattle.repeats.specs.Claims.{Before}
-use Rattle.repeats.specs.Roots.{leftOf, accepts, before, put}
 use Rattle.runs.specs.declared.roots.Run as declared
 
 abbrev pub runOf : declared.Run → Run

@@ -5,8 +5,9 @@ ghost use mathlib.Core.Bool.{true, false};
 ghost use Prim.Native.Nat.{_+_, _-_, _≤_, _<_, min};
 ghost use lib.ListN.{length, getD};
 ghost use Rattle.suffix.specs.Ranks.{ranks};
-ghost use Rattle.repeats.specs.Runs.{runs};
-ghost use Rattle.repeats.specs.Roots.{leftOf, reportOf, before};
+ghost use Rattle.repeats.specs.Report.{runs, before};
+ghost use Rattle.repeats.specs.Roots.{leftOf};
+ghost use Rattle.repeats.specs.Gathered.{reportOf};
 ghost use Rattle.runs.specs.States.{runOf, lists, entryIn, entries, stored, Has, passes, Within, Judged, Insertable, Put, Tabled};
 
 // A run, or 0 three times for none.

@@ -13,7 +13,7 @@ use Rattle.suffix.specs.Search.{tabulate}
 use Rattle.suffix.specs.Order.{suffixLess, lce}
 use Rattle.suffix.specs.Nearest.{previous, next, previousMatch, nextMatch}
 use Rattle.suffix.specs.Rows.{previousAfter, nextAfter, previousMatchAfter, nextMatchAfter, tablesAfter}
-use Rattle.suffix.specs.Claims.{SuffixesAreOrdered, LettersDecide, IsPrevious, IsNext, PreviousIsGreatest, NextIsLeast, LargerBetween, PairsAreEdges, PairsDoNotCross, PreviousIsOnTheChain, NextIsOnTheChain, MatchesOfThree, AllRowsGiveAllEntries, RowsSettleTheirOwn, LongestIsNext, RowsWriteTheTree, TreeHasTwoBitsARow}
+use Rattle.suffix.specs.Claims.{SuffixesAreOrdered, LettersDecide, IsPrevious, IsNext, PreviousIsGreatest, NextIsLeast, LargerBetween, PairsAreEdges, PairsDoNotCross, PreviousIsOnTheChain, NextIsOnTheChain, MatchesOfThree, AllRowsGiveAllEntries, RowsSettleTheirOwn, LongestIsNext, TestTellsPeriods, RotationsAreCycled, RotationsCompare, EqualRotationsRepeat, RepeatsSplit, SomeRotationIsSmallest, LongestWordIsLeastRepeat, SmallestRotationIsLyndon, RowsWriteTheTree, TreeHasTwoBitsARow}
 use Rattle.suffix.specs.Claims as claims
 use Rattle.suffix.proofs.Cases.{Tri, lt, eq, gt, tri, Same, same, other, same?, le-unless}
 use Rattle.suffix.proofs.Search.{tabulate-same}
@@ -24,6 +24,9 @@ use Rattle.suffix.proofs.Nearest.{PreviousCase, some, none, previous-ca
 use Rattle.suffix.proofs.Rows.{tables-are, nextMatch-none, previousAfter-in, previousMatchAfter-in, nextAfter-in, nextAfter-out, nextMatchAfter-in, nextMatchAfter-out, previousAfter-stays, previousMatchAfter-stays, nextAfter-stays, nextMatchAfter-stays}
 use Rattle.suffix.proofs.Reach.{pair-in, pair-from}
 use Rattle.suffix.proofs.Lyndon.{longest-next}
+use Rattle.suffix.proofs.Periods.{period-told, tell-period}
+use Rattle.suffix.proofs.Rotations.{rotation-cycled, cycled-rotation, less-rotations, rotations-less}
+use Rattle.suffix.proofs.SmallestRotation.{equal-repeats, repeats-equal, splits, smallest-some, longest-repeats, alone-smallest}
 use Rattle.suffix.proofs.Written.{rows-write, tree-length}
 
 pub suffixesAreOrdered : SuffixesAreOrdered
@@ -250,10 +253,36 @@ rowsSettleTheirOwn y r i h =
       other-next = λ ne. (nextAfter-stays y r i h ne, nextMatchAfter-stays y r i h ne);
     }
 
--- ---- Lyndon words and the tree
+-- ---- Lyndon words, periods and rotations
 
 pub longestIsNext : LongestIsNext
 longestIsNext = longest-next
+
+pub testTellsPeriods : TestTellsPeriods
+testTellsPeriods y s e p = (period-told y s e p, tell-period y s e p)
+
+pub rotationsAreCycled : RotationsAreCycled
+rotationsAreCycled y i h = (rotation-cycled y i (omega arith), cycled-rotation y i (omega arith))
+
+pub rotationsCompare : RotationsCompare
+rotationsCompare y i j a b = (less-rotations y i j a b, rotations-less y i j a b)
+
+pub equalRotationsRepeat : EqualRotationsRepeat
+equalRotationsRepeat y a b h g = (equal-repeats y (omega arith) a b h (omega arith), repeats-equal y (omega arith) a b h (omega arith))
+
+pub repeatsSplit : RepeatsSplit
+repeatsSplit y q h = splits y (omega arith)
+
+pub someRotationIsSmallest : SomeRotationIsSmallest
+someRotationIsSmallest y h = smallest-some y (omega arith)
+
+pub longestWordIsLeastRepeat : LongestWordIsLeastRepeat
+longestWordIsLeastRepeat y s M = longest-repeats y (omega (arith, M .within)) M
+
+pub smallestRotationIsLyndon : SmallestRotationIsLyndon
+smallestRotationIsLyndon y s D M = alone-smallest y (omega (arith, M .within)) D M
+
+-- ---- the tree
 
 pub rowsWriteTheTree : RowsWriteTheTree
 rowsWriteTheTree = rows-write

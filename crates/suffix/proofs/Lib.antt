@@ -9,6 +9,12 @@ pub mod Nearest
 pub mod Rows
 pub mod Reach
 pub mod Lyndon
+pub mod RotationExamples
+pub mod Periods
+pub mod Periodic
+pub mod LeastPeriod
+pub mod Rotations
+pub mod SmallestRotation
 pub mod Levels
 pub mod Hanging
 pub mod Written

@@ -7,10 +7,11 @@ use Prim.Native.Nat.{ℕ, suc, _+_, _-_, _*_, _≤_, _<_}
 use lib.Dec.{ltb}
 use lib.ListN.{length, getD}
 use Rattle.suffix.specs.Search.{tabulate}
-use Rattle.suffix.specs.Order.{suffixLess, lce}
+use Rattle.suffix.specs.Order.{lexLess, suffixLess, lce}
 use Rattle.suffix.specs.Nearest.{previous, next, previousMatch, nextMatch}
 use Rattle.suffix.specs.Rows.{previousAfter, nextAfter, previousMatchAfter, nextMatchAfter, tablesAfter, isPair}
-use Rattle.suffix.specs.Lyndon.{longestLyndon}
+use Rattle.suffix.specs.Lyndon.{isLyndon, longestLyndon}
+use Rattle.suffix.specs.Periods.{HasPeriod, hasPeriod, rotation, cycled, CycledLess, RepeatsAfter, LeastRepeat, Splits, SmallestRotation, RotationsDiffer}
 use Rattle.suffix.specs.Tree.{treeAfter, rowsWrite}
 
 -- ---- the order of suffixes, the empty one at n among them
@@ -131,6 +132,47 @@ RowsSettleTheirOwn = (y : List ℕ) (r i : ℕ) → i < length y → RowSettles 
 -- "The longest Lyndon word from i has length next[i] − i (documents 000 and 004)."
 abbrev pub LongestIsNext : Type 0
 LongestIsNext = (y : List ℕ) (i : ℕ) → i < length y → longestLyndon y i ≡ next y i - i
+
+-- ---- periods and rotations
+
+abbrev pub TestTellsPeriods : Type 0
+TestTellsPeriods = (y : List ℕ) (s e p : ℕ) → (hasPeriod y s e p ≡ true → HasPeriod y s e p) × (HasPeriod y s e p → hasPeriod y s e p ≡ true)
+
+-- rotation i is n letters from i on of y repeated without end, and itself repeated without end it is all from i on
+abbrev pub RotationsAreCycled : Type 0
+RotationsAreCycled =
+    (y : List ℕ) (i : ℕ) → i ≤ length y
+    → (rotation y i ≡ tabulate (length y) (λ k. cycled y (i + k))) × ((k : ℕ) → cycled (rotation y i) k ≡ cycled y (i + k))
+
+abbrev pub RotationsCompare : Type 0
+RotationsCompare =
+    (y : List ℕ) (i j : ℕ) → i ≤ length y → j ≤ length y
+    → (lexLess (rotation y i) (rotation y j) ≡ true → CycledLess y i j) × (CycledLess y i j → lexLess (rotation y i) (rotation y j) ≡ true)
+
+-- two rotations are equal exactly if y repeated without end is the same again as far on as they are apart
+abbrev pub EqualRotationsRepeat : Type 0
+EqualRotationsRepeat =
+    (y : List ℕ) (a b : ℕ) → a < b → b ≤ length y
+    → (rotation y a ≡ rotation y b → RepeatsAfter y (b - a)) × (RepeatsAfter y (b - a) → rotation y a ≡ rotation y b)
+
+abbrev pub RepeatsSplit : Type 0
+RepeatsSplit = (y : List ℕ) (q : ℕ) → 1 ≤ length y → RepeatsAfter y q → Splits y q
+
+abbrev pub SomeRotationIsSmallest : Type 0
+SomeRotationIsSmallest = (y : List ℕ) → 1 ≤ length y → (s : ℕ) × SmallestRotation y s
+
+-- the smallest rotation begins with the part that it repeats: its longest Lyndon word there
+abbrev pub LongestWordIsLeastRepeat : Type 0
+LongestWordIsLeastRepeat = (y : List ℕ) (s : ℕ) → SmallestRotation y s → LeastRepeat y (longestLyndon (rotation y s) 0)
+
+-- where no two rotations are equal, the smallest is smaller than each other one, so that there is one only, and it is a Lyndon word
+pub record AloneSmallest (y : List ℕ) (s : ℕ) : Type 0 where
+  pub smaller : (k : ℕ) → k < length y → k ≢ s → lexLess (rotation y s) (rotation y k) ≡ true
+  pub only : (t : ℕ) → SmallestRotation y t → t ≡ s
+  pub lyndon : isLyndon (rotation y s) ≡ true
+
+abbrev pub SmallestRotationIsLyndon : Type 0
+SmallestRotationIsLyndon = (y : List ℕ) (s : ℕ) → RotationsDiffer y → SmallestRotation y s → AloneSmallest y s
 
 -- ---- the tree
 

@@ -6,5 +6,6 @@ pub mod Order
 pub mod Nearest
 pub mod Rows
 pub mod Lyndon
+pub mod Periods
 pub mod Tree
 pub mod Claims

@@ -8,7 +8,7 @@ use borrow.Author.Needs.{needs}
 use Rattle.suffix.specs.Ranks.{ranks}
 use Rattle.suffix.proofs.Ranks.{ranks-length}
 use Rattle.refusal.specs.Numbers.{verdictNumber}
-use Rattle.repeats.specs.Runs.{runs}
+use Rattle.repeats.specs.Report.{runs}
 use Rattle.repeats.specs.Refusals.{Lists, lengthsRefusal}
 use Rattle.repeats.proofs.Gathering.{runs-most}
 use Rattle.runs.specs.States.{lists, entries}
