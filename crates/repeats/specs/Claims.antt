@@ -5,7 +5,7 @@ use mathlib.Core.Bool.{Bool, true, false}
 use mathlib.Core.List.{List, [], _∷_, map}
 use Prim.Native.Nat.{ℕ, _-_, _≤_, _<_}
 use lib.ListN.{length}
-use Rattle.suffix.specs.Ranks.{orientedFrom}
+use Rattle.suffix.specs.Ranks.{ranks, orientedFrom}
 use Rattle.repeats.specs.Runs.{Run, IsRun, isRun}
 use Rattle.repeats.specs.Report.{Before, before, ListsRuns, runs}
 use Rattle.repeats.specs.Roots.{AtMost, IsRoot, Root, accepted, reported}
@@ -25,7 +25,7 @@ ReportIsExact = (y : List ℕ) → ListsRuns y (runs y) × ((l : List Run) → L
 
 -- "For banana it is one run: 1, 6, 2."
 abbrev pub BananaHasOneRun : Type 0
-BananaHasOneRun = runs (98 ∷ 97 ∷ 110 ∷ 97 ∷ 110 ∷ 97 ∷ []) ≡ record { start = 1; end = 6; period = 2 } ∷ []
+BananaHasOneRun = runs (ranks (98 ∷ 97 ∷ 110 ∷ 97 ∷ 110 ∷ 97 ∷ [])) ≡ record { start = 1; end = 6; period = 2 } ∷ []
 
 -- T-14: "any string of n ≥ 1 symbols has fewer than n runs"
 abbrev pub FewerRunsThanLetters : Type 0
