@@ -56,9 +56,9 @@
 extern "C" {
 #endif
 
-/* The version of this header: it rises with every change of a structure or a function, of what it answers too. A program whose
- * LYNDON_VERSION is not what lyndon_version() returns was compiled against another header than the archive's, and is to be compiled
- * again. */
+/* The version of this header: it rises when a function is added, and with every change of a structure or a function, of what it
+ * answers too. A program whose LYNDON_VERSION is not what lyndon_version() returns was compiled against another header than the
+ * archive's, and is to be compiled again. */
 #define LYNDON_VERSION 2
 
 /* The version of the archive. */
@@ -174,8 +174,8 @@ LyndonPartReply lyndon_word(const uint8_t *letters, size_t letters_length, size_
 /* Reports every run of `letters` once, by start and then by period: run k, from 0, has its start in starts[k], its end in ends[k]
  * and its period in periods[k]. The value is the number of runs. n is letters_length.
  *
- * The three lists have any one length. n - 1 entries are enough for every string of n >= 1 letters: 13 occurs with shorter lists
- * only. The six work tables have n entries each, and may hold anything before.
+ * The three lists have one length, whatever it is. n - 1 entries are enough for every string of n >= 1 letters: 13 occurs with shorter
+ * lists only. The six work tables have n entries each, and may hold anything before.
  *
  * Refusals, in the order in which they are tested: 1, 2 (for any of the six work tables), 12, 13 (exactly where there are more runs
  * than entries).

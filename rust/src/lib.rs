@@ -44,8 +44,8 @@ use std::fmt;
 
 pub mod raw;
 
-/// The version of `liblyndon.a`: it rises with every change of an exported structure or function, of what
-/// it answers too. This wrapper is made for [`raw::VERSION`]; no call compares the two, so a program
+/// The version of `liblyndon.a`: it rises when a function is added, and with every change of an exported
+/// structure or function, of what it answers too. This wrapper is made for [`raw::VERSION`]; no call compares the two, so a program
 /// that is linked with an archive from elsewhere asserts it once:
 ///
 /// ```
@@ -335,8 +335,8 @@ pub struct Run {
 /// # Ok::<(), lyndon::Refusal>(())
 /// ```
 ///
-/// This takes memory for 9 n numbers of 32 bits and gives it back before it returns; whoever asks often
-/// lends it once by [`runs_into`].
+/// Beside what it returns this takes memory for 9 n numbers of 32 bits, and gives it back; whoever asks
+/// often lends it once by [`runs_into`].
 ///
 /// # Errors
 ///
@@ -364,9 +364,9 @@ pub fn runs_work_length(n: usize) -> usize {
 /// Reports all runs of `letters` in lent memory, each once, by start and then by period, and returns
 /// their number.
 ///
-/// Run k is `starts[k]`, `ends[k]`, `periods[k]`, which are a [`Run`]'s members. The three lists have any
-/// one length; n - 1 entries suffice for every string of n letters, n at least 1. All their entries are
-/// written: those beyond the number of runs hold 0.
+/// Run k is `starts[k]`, `ends[k]`, `periods[k]`, which are a [`Run`]'s members. The three lists have one
+/// length, whatever it is; n - 1 entries suffice for every string of n letters, n at least 1. All their
+/// entries are written: those beyond the number of runs hold 0.
 ///
 /// `work` has [`runs_work_length`]`(n)` entries or more. So many of its first entries are used, may hold
 /// anything before, and hold 0 afterwards; those behind them are left alone. So lists and work memory for
