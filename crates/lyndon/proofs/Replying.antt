@@ -15,8 +15,8 @@ use Rattle.brackets.specs.Answers as brackets
 use Rattle.refusal.specs.Answers as refusal
 use Rattle.word.specs.Word.{WordAnswered}
 use Rattle.word.proofs.Laws.{part-refused, start-refused, start-taken}
-use Rattle.repeats.specs.Refusals.{Lists}
-use Rattle.runs.specs.Reported.{Reported}
+use Rattle.runs.specs.States.{lists}
+use Rattle.runs.specs.Reported.{workOf, Reported}
 use Rattle.cabinet.specs.Answers.{Written, EntryRead}
 use Rattle.lyndon.specs.declared.BuildReply.{BuildReply}
 use Rattle.lyndon.specs.declared.Reply.{Reply}
@@ -77,8 +77,9 @@ figures (told {b} e) = b
 pub answered : {given : Reply} {a : refusal.Figures} → given ≡ reply a → (t : Told a) → given ≡ reply (figures t)
 answered z (told e) = z ∙ ap reply e
 
--- a report of all runs that answers with a, and a reply with its figures
+-- a report of all runs that answers with z, and a reply with its figures
 pub runs-reported :
-    {y : List ℕ} {work workExit : List (List ℕ)} {lists listsExit : Lists} {a : Answer} {given : Reply} → Reported y work lists workExit listsExit a
-    → given ≡ reply (refusal.figuresOf a) → RunsReplied y work lists workExit listsExit given
-runs-reported e z = record { replies = z ∙ ap reply (e .answers); leaves-lists = e .leaves-lists; leaves-work = e .leaves-work }
+    {y a b c d e f starts ends periods a′ b′ c′ d′ e′ f′ starts′ ends′ periods′ : List ℕ} {z : Answer} {given : Reply}
+    → Reported y (workOf a b c d e f) (lists starts ends periods) (workOf a′ b′ c′ d′ e′ f′) (lists starts′ ends′ periods′) z → given ≡ reply (refusal.figuresOf z)
+    → RunsReplied y a b c d e f starts ends periods a′ b′ c′ d′ e′ f′ starts′ ends′ periods′ given
+runs-reported r z = record { replies = z ∙ ap reply (r .answers); leaves-lists = r .leaves-lists; leaves-work = r .leaves-work }

@@ -8,8 +8,9 @@ use Rattle.build.specs.Built as build
 use Rattle.brackets.specs.Answers as brackets
 use Rattle.refusal.specs.Answers as refusal
 use Rattle.word.specs.Word.{wordPart, wordStart}
-use Rattle.repeats.specs.Refusals.{Lists}
 use Rattle.repeats.specs.Answers as repeats
+use Rattle.runs.specs.States.{lists}
+use Rattle.runs.specs.Reported.{workOf}
 use Rattle.cabinet.specs.Refusals.{writeRefusal, readRefusal}
 use Rattle.cabinet.specs.Answers.{writtenFile, readBody, readPlace, readLetters}
 use Rattle.lyndon.specs.declared.BuildReply.{BuildReply}
@@ -17,7 +18,7 @@ use Rattle.lyndon.specs.declared.Reply.{Reply}
 use Rattle.lyndon.specs.declared.PartReply.{PartReply}
 use Rattle.lyndon.specs.declared.CabinetReply.{CabinetReply}
 
--- the version of the exported structures and functions: it rises with every change of one of them, of what it answers too
+-- the version of the exported structures and functions: it rises when one is added and with every change of one, of what it answers too
 abbrev pub interfaceVersion : ℕ
 interfaceVersion = 2
 
@@ -38,7 +39,7 @@ pub record ReadReplied (n : ℕ) (tree : List ℕ) (before after : brackets.Lent
   pub replies : number ≡ brackets.refusalOf n tree before
   pub leaves : after ≡ brackets.lentAtExit n tree before
 
--- a question put to a tree
+-- an answer that is one number: a question put to a tree, the report of all runs
 unfoldable pub reply : refusal.Figures → Reply
 reply (refusal.value v) = record { refusal = 0; value = v }
 reply (refusal.refused number) = record { refusal = number; value = 0 }
@@ -48,11 +49,11 @@ abbrev pub wordReply : List ℕ → ℕ → PartReply
 wordReply letters position =
     record { refusal = wordRefusal (length letters) position; start = wordStart letters position; length = length (wordPart letters position) }
 
--- the report of all runs
-pub record RunsReplied (y : List ℕ) (work : List (List ℕ)) (lists : Lists) (workExit : List (List ℕ)) (listsExit : Lists) (given : Reply) : Type 0 where
-  pub replies : given ≡ reply (repeats.answer y work lists)
-  pub leaves-lists : listsExit ≡ repeats.listsAfter y work lists
-  pub leaves-work : workExit ≡ repeats.workAfter y work lists
+-- the report of all runs, over the six work tables and the three lists, at entry and at exit
+pub record RunsReplied (y a b c d e f starts ends periods a′ b′ c′ d′ e′ f′ starts′ ends′ periods′ : List ℕ) (given : Reply) : Type 0 where
+  pub replies : given ≡ reply (repeats.answer y (workOf a b c d e f) (lists starts ends periods))
+  pub leaves-lists : lists starts′ ends′ periods′ ≡ repeats.listsAfter y (workOf a b c d e f) (lists starts ends periods)
+  pub leaves-work : workOf a′ b′ c′ d′ e′ f′ ≡ repeats.workAfter y (workOf a b c d e f) (lists starts ends periods)
 
 -- writing a cabinet file
 pub record WriteReplied (counts trees before after : List ℕ) (number : ℕ) : Type 0 where

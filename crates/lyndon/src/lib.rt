@@ -4,8 +4,6 @@ ghost use Rattle.suffix.specs.Ranks.{ranks};
 ghost use Rattle.build.specs.Built.{lent, figuresOf as builtFigures};
 ghost use Rattle.refusal.specs.Answers.{figuresOf};
 ghost use Rattle.questions.specs.Answers.{previousAnswer, nextAnswer, placeAnswer};
-ghost use Rattle.runs.specs.States.{lists};
-ghost use Rattle.runs.specs.Reported.{workOf};
 ghost use Rattle.lyndon.specs.Replies.{interfaceVersion, BuildReplied, ReadReplied, RunsReplied, WriteReplied, buildReply, reply, wordReply, cabinetReply};
 use build::Built;
 use refusal::Answer;
@@ -191,10 +189,10 @@ pub extern "C" fn lyndon_runs(
 ) -> Reply
     ensures { λ r.
         ⌜ RunsReplied (ranks (now (letters .entry)))
-        (workOf (now («work_1» .entry)) (now («work_2» .entry)) (now («work_3» .entry)) (now («work_4» .entry)) (now («work_5» .entry)) (now («work_6» .entry)))
-        (lists (now (starts .entry)) (now (ends .entry)) (now (periods .entry)))
-        (workOf (now («work_1» .exit)) (now («work_2» .exit)) (now («work_3» .exit)) (now («work_4» .exit)) (now («work_5» .exit)) (now («work_6» .exit)))
-        (lists (now (starts .exit)) (now (ends .exit)) (now (periods .exit)))
+        (now («work_1» .entry)) (now («work_2» .entry)) (now («work_3» .entry)) (now («work_4» .entry)) (now («work_5» .entry)) (now («work_6» .entry))
+        (now (starts .entry)) (now (ends .entry)) (now (periods .entry))
+        (now («work_1» .exit)) (now («work_2» .exit)) (now («work_3» .exit)) (now («work_4» .exit)) (now («work_5» .exit)) (now («work_6» .exit))
+        (now (starts .exit)) (now (ends .exit)) (now (periods .exit))
         r ⌝ }
 {
     reply_of(runs::report(
