@@ -2,10 +2,9 @@
 use mathlib.Core.Path.{_≡_, sym, ap, _∙_}
 use native.Mathlib.Omega.{arith}
 use borrow.Author.Needs.{needs}
-use borrow.Author.Tests.{lt-ltb, le-ltb, eq-eqb, ne-eqb}
-use Rattle.refusal.specs.Numbers.{verdictNumber, lowestFrom}
+use Rattle.refusal.specs.Numbers.{verdictNumber}
 use Rattle.refusal.specs.Conditions.{tablesRefusal}
-use Rattle.refusal.proofs.Tables.{refused-first, taken-first, taken}
+use Rattle.refusal.proofs.Tables.{refused-first, taken, says-three, says-four, says-taken}
 use Rattle.refusal.proofs.build_verdict.Statement.{statement}
 use Rattle.refusal.proofs.build_verdict.Tie as tie
 
@@ -20,16 +19,13 @@ add-if1 : tie.Need-add-if1
 add-if1 c = let t = taken _ _ _ _ _ (accepted c) in omega (arith, t .few)
 
 returns-2 : tie.Need-returns-2
-unfolding lowestFrom
-returns-2 c = sym (taken-first _ _ _ _ _ _ _ (accepted (c .before)) ∙ simp (ne-eqb _ _ (c .if1 .taken)))
+returns-2 c = says-three _ _ _ _ _ _ _ (accepted (c .before)) (omega arith) (omega arith)
 
 returns-3 : tie.Need-returns-3
-unfolding lowestFrom
-returns-3 c = sym (taken-first _ _ _ _ _ _ _ (accepted (c .before .before)) ∙ simp (eq-eqb _ _ (c .before .if1 .left), lt-ltb _ _ (c .if2 .taken)))
+returns-3 c = says-four _ _ _ _ _ _ _ (accepted (c .before .before)) (omega arith) (omega arith) (omega arith)
 
 returns-4 : tie.Need-returns-4
-unfolding lowestFrom
-returns-4 c = sym (taken-first _ _ _ _ _ _ _ (accepted (c .before .before)) ∙ simp (eq-eqb _ _ (c .before .if1 .left), le-ltb _ _ (c .if2 .left)))
+returns-4 c = says-taken _ _ _ _ _ _ _ (accepted (c .before .before)) (omega arith) (omega arith) (omega arith)
 
 pub build-verdict-spec : {M : Type 1} → statement M
 build-verdict-spec = tie.close (tie.spec (λ c κs. tt) (λ c. search needs) returns (λ c. search needs) add-if1 returns-2 returns-3 returns-4)
