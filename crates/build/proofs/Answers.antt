@@ -1,5 +1,5 @@
 -- Each way out of a build answers, and leaves, what the definitions say.
-use mathlib.Core.Path.{_≡_, ap, _∙_}
+use mathlib.Core.Path.{_≡_, refl, ap, _∙_}
 use mathlib.Core.Logic.{_≢_}
 use mathlib.Core.List.{List}
 use Prim.Native.Nat.{ℕ, _≤_}
@@ -50,7 +50,7 @@ module _ (y : List ℕ) (R : ℕ) (before : Lent) where
       let ne = ne-eqb (refusalOf y R before) 0 (omega (arith, positive k)) in
       record {
         answers = rw (ne, answer) (ap Rattle.build.specs.Built.refused e);
-        leaves = rw (ne, lentAtExit);
+        leaves = rw (ne, lentAtExit) refl;
         bounded =
             record {
               within = λ z. absurd (omega (arith, positive k));

@@ -22,12 +22,21 @@ pub same-pair : {reach shift equal unequal m reach′ shift′ equal′ unequal�
     (record { progress = record { reach = reach′; shift = shift′; equal = equal′; unequal = unequal′ }; match = m′; leftSmaller = b })
 same-pair p q v w x = rw (p, q, v, w, x)
 
+-- a test as a number
+abbrev pub numeral : Bool → ℕ
+numeral true = 1
+numeral false = 0
+
+is-false : (b : Bool) → numeral b ≡ 0 → b ≡ false
+is-false true e = absurd (omega arith)
+is-false false e = refl
+
 -- ---- a scan that stands at m: what is left of it is the whole
 
 module _ (y : List ℕ) (l r m equal unequal : ℕ) {whole : ScanReport} (is : whole ≡ scan y l r m (length y - (r + m)) equal unequal) where
-  pub at-end : length y ≤ r + m → {i j : ℕ} → i ≡ equal → j ≡ unequal → record { match = m; leftSmaller = false; equal = i; unequal = j } ≡ whole
+  pub at-end : length y ≤ r + m → {b : Bool} {i j : ℕ} → numeral b ≡ 0 → i ≡ equal → j ≡ unequal → record { match = m; leftSmaller = b; equal = i; unequal = j } ≡ whole
   unfolding scan
-  at-end h p q = let z : length y - (r + m) ≡ 0 = omega arith in rw (p, q) (sym (is ∙ rw z))
+  at-end h {b} e p q = let z : length y - (r + m) ≡ 0 = omega arith in rw (is-false b e, p, q) (sym (is ∙ rw z))
 
   module _ (h : r + m < length y) where
     left : length y - (r + m) ≡ suc (length y - (r + (m + 1)))

@@ -4,7 +4,7 @@ use mathlib.Core.Logic.{_≢_}
 use mathlib.Core.List.{List}
 use Prim.Native.Nat.{ℕ, _+_, _-_, _≤_, _<_}
 use native.Mathlib.Omega.{arith}
-use lib.ListN.{length, take}
+use lib.ListN.{length, set, take}
 use Rattle.suffix.specs.Tree.{treeLength, treeBytes}
 use Rattle.suffix.proofs.Rows.{tables-are}
 use Rattle.reuse.specs.Steps.{recordPrevious, recordNext}
@@ -118,8 +118,10 @@ row-recorded : (e : tie.After-record-entry2 Inv-walk μ-walk Inv-rows μ-rows) �
     (length (y (rows-start (rows-head (row e))))) 0
 unfolding recordPrevious recordNext
 row-recorded e =
-    rw (same (rows-start (rows-head (row e))))
-    (tables-are (row e .record-entry .ensures .0) (e .record-entry2 .ensures .0) (row e .record-entry .ensures .1) (e .record-entry2 .ensures .1))
+    let h = rows-head (row e) .rows in
+    let s = rows-start (rows-head (row e)) in
+    let pending : e .record-entry2 .last .0 ≡ set (h .next) (h .state .rows + 1 - 1) (length (s .args .letters .now)) = e .record-entry2 .ensures .0 in
+    rw (same s) (tables-are (row e .record-entry .ensures .0) pending (row e .record-entry .ensures .1) (e .record-entry2 .ensures .1))
 
 walk-holds : tie.Need-walk-holds Inv-walk μ-walk Inv-rows μ-rows
 walk-holds c =
@@ -184,7 +186,7 @@ module _ (e : tie.Else4 Inv-walk μ-walk Inv-rows μ-rows) where
 rows-again-3 : tie.Need-rows-again-3 Inv-walk μ-walk Inv-rows μ-rows
 rows-again-3 c =
     let e = c .before in (
-      law.ends-less (a e .walk .inv) (S e .settle .result) (S e .settle .ensures) (right (recorded e) .if3 .left) (next-recorded (recorded e)) (some e) (c .if5 .taken),
+      law.ends-less (a e .walk .inv) (S e .settle .result) (S e .settle .ensures) (right (recorded e) .if3 .left) (next-recorded (recorded e)) (some e) (omega (arith, c .if5 .taken)),
       tree-stays (a e),
     )
 
@@ -192,7 +194,7 @@ walk-again : tie.Need-walk-again Inv-walk μ-walk Inv-rows μ-rows
 walk-again c =
     let f = c .before .before in
     let e = f .before .before .before in
-    law.goes (a e .walk .inv) (S e .settle .result) (S e .settle .ensures) (right (recorded e) .if3 .left) (next-recorded (recorded e)) (some e) (f .before .before .if5 .left)
+    law.goes (a e .walk .inv) (S e .settle .result) (S e .settle .ensures) (right (recorded e) .if3 .left) (next-recorded (recorded e)) (some e) (omega (arith, f .before .before .if5 .left))
     (f .read .ensures .0) (c .read2 .ensures .0)
 
 -- where all rows are done: its entries and the tree's bit are written

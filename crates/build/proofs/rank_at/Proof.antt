@@ -1,5 +1,5 @@
 -- `build::rank_at` meets its contract.
-use mathlib.Core.Path.{_≡_, sym, ap, _∙_}
+use mathlib.Core.Path.{_≡_, sym, _∙_}
 use Prim.Native.Nat.{_-_}
 use native.Mathlib.Omega.{arith}
 use lib.ListN.{getD}
@@ -17,7 +17,7 @@ returns c =
     let s = c .before .before .before .before in
     let y = ranks (s .args .letters .now) in
     rw (c .if1 .taken)
-    (ap (λ r. greatestRank - r) (ranked (c .before)) ∙ sym (reversed-entry greatestRank y (s .args .i) (omega (arith, ranks-length (s .args .letters .now), s .pre))))
+    (omega (arith, ranked (c .before), reversed-entry greatestRank y (s .args .i) (omega (arith, ranks-length (s .args .letters .now), s .pre))))
 
 returns-2 : tie.Need-returns-2
 returns-2 c = rw (c .if1 .left) (ranked (c .before))

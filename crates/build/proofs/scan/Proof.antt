@@ -45,7 +45,7 @@ returns-2 : tie.Need-returns-2 Inv-loop μ-loop
 returns-2 c =
     let i = c .before .loop .inv in
     let g = c .before .before .before .args in
-    (at-end _ _ _ _ _ _ (i .2) (omega (arith, string-length (g .reverse) (g .letters .now), c .loop-test .left)) (omega arith) (omega arith), omega arith)
+    (at-end _ _ _ _ _ _ (i .2) (omega (arith, string-length (g .reverse) (g .letters .now), c .loop-test .left)) (omega arith) (omega arith) (omega arith), omega arith)
 
 pub scan-spec : {M : Type 1} → statement M
 scan-spec =
