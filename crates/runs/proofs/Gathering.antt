@@ -1,5 +1,5 @@
 -- Place after place, the reports are put into three tables.
-use mathlib.Core.Path.{_≡_, refl, sym, ap, _∙_}
+use mathlib.Core.Path.{_≡_, refl, ap, _∙_}
 use mathlib.Core.Logic.{_≢_}
 use mathlib.Core.Bool.{Bool, true, false}
 use mathlib.Core.List.{List}
@@ -26,7 +26,7 @@ use Rattle.repeats.specs.Gathered.{reportOf, reportAt, put, gathered}
 use Rattle.repeats.specs.Refusals.{Lists}
 use Rattle.repeats.proofs.Gathering.{Holds, Gathers, puts, leaves, gathers-how, gathered-holds, gathered-is, gathered-few, fresh}
 use Rattle.runs.specs.States.{entryIn, entriesFrom, entries, Has, Within, Insertable, Put, Tabled}
-use Rattle.runs.proofs.Inserting.{entries-length, entry-mem, entries-ordered}
+use Rattle.runs.proofs.Inserting.{entries-count, entry-mem, entries-ordered}
 
 -- next and its match lie in the string, under either order
 pub within-next : (y : List ℕ) (o : Bool) (i : ℕ) → i < length y → {j : ℕ} → j ≡ next (oriented o y) i → {m : ℕ} → m ≡ nextMatch (oriented o y) i → Within (length y) i j m
@@ -77,9 +77,6 @@ unfolding entriesFrom gathered
 gathering-none T a b =
     record { most = omega arith; few = omega arith; holds = refl; starts = a; ends = b; periods = nexts-length T; next = λ k h w. next-entry T k w }
 
-count-is : (y : List ℕ) (i c : ℕ) (t : Lists) → entries t c ≡ gathered greatestRank y i → c ≡ length (gathered greatestRank y i)
-count-is y i c t e = sym (entries-length t 0 c) ∙ ap length e
-
 module _ {y : List ℕ} (B : AtMost greatestRank y) {i c : ℕ} {t : Lists} (G : Gathering y i c t) (h : i < length y) where
   pub gathering-has : Has t c
   gathering-has = record { starts = omega arith; ends = omega arith; periods = omega arith }
@@ -105,7 +102,7 @@ module _ {y : List ℕ} (B : AtMost greatestRank y) {i c : ℕ} {t : Lists} (G :
       rw (add-one i)
       (record {
         most = omega arith;
-        few = omega (arith, count-is y (suc i) d u holds, gathered-few greatestRank y i);
+        few = omega (arith, entries-count u d holds, gathered-few greatestRank y i);
         holds = holds;
         starts = omega arith;
         ends = omega arith;

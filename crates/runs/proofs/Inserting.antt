@@ -2,19 +2,19 @@
 use mathlib.Core.Path.{_≡_, refl, sym, ap, _∙_}
 use mathlib.Core.Logic.{_≢_, _⊎_, inl, inr}
 use mathlib.Core.Bool.{Bool, true, false, or-false, true≢false}
-use mathlib.Core.List.{_∷_, _++_, List·Memᴰ, List·Memᴰ·head, List·Memᴰ·tail, List·Memᴰ·not-nil, List·Memᴰ·cases-cons}
+use mathlib.Core.List.{List, _∷_, _++_, List·Memᴰ, List·Memᴰ·head, List·Memᴰ·tail, List·Memᴰ·not-nil, List·Memᴰ·cases-cons}
 use Prim.Native.Nat.{ℕ, zero, suc, _+_, _-_, _≤_, _<_}
 use native.Mathlib.Omega.{arith}
 use lib.Dec.{ltb}
 use lib.ListN.{length, length-set}
 use lib.Seq.{getD-set-same, getD-set-other}
 use borrow.Author.Tests.{lt-ltb, le-ltb, ltb-true, eq-eqb, ne-eqb}
-use Rattle.suffix.proofs.Cases.{Tri, lt, eq, gt, tri, Same, same, other, same?, both-true}
+use Rattle.suffix.proofs.Cases.{Same, same, other, same?, both-true}
 use Rattle.repeats.specs.Runs.{Run}
-use Rattle.repeats.specs.Report.{before, Before, earlier, shorter, Ordered, then}
+use Rattle.repeats.specs.Report.{before, Before, Ordered, then}
 use Rattle.repeats.specs.Gathered.{insert}
 use Rattle.repeats.specs.Refusals.{Lists}
-use Rattle.repeats.proofs.Ordering.{before-trans, before-yes, insert-at}
+use Rattle.repeats.proofs.Ordering.{before-trans, before-yes, before-told, insert-at}
 use Rattle.repeats.proofs.Listing.{run-eq}
 use Rattle.repeats.proofs.Gathering.{put-none, put-one}
 use Rattle.runs.specs.States.{entryIn, entriesFrom, entries, stored, Has, passes, Insertable, Put}
@@ -30,20 +30,15 @@ module _ (r q : Run) where
   unfolding before
   before-other e = rw (ne-eqb (r .start) (q .start) e) (sym (or-false _))
 
-  before-told : before r q ≡ true → Before r q
-  before-told e = go (tri (r .start) (q .start))
-    where
-      go : Tri (r .start) (q .start) → Before r q
-      go (lt h) = earlier h
-      go (eq h) = shorter h (ltb-true _ _ (before-same h ∙ e))
-      go (gt h) = absurd (omega (arith, ltb-true (r .start) (q .start) (before-other (omega arith) ∙ e)))
-
 -- ---- the entries of three tables as a list
 
-pub entries-length : (t : Lists) (i c : ℕ) → length (entriesFrom t i c) ≡ c
+entries-length : (t : Lists) (i c : ℕ) → length (entriesFrom t i c) ≡ c
 unfolding entriesFrom
 entries-length t i zero = refl
 entries-length t i (suc c) = ap suc (entries-length t (suc i) c)
+
+pub entries-count : (t : Lists) (c : ℕ) {l : List Run} → entries t c ≡ l → c ≡ length l
+entries-count t c e = sym (entries-length t 0 c) ∙ ap length e
 
 entries-split : (t : Lists) (i a b : ℕ) → entriesFrom t i (a + b) ≡ entriesFrom t i a ++ entriesFrom t (i + a) b
 unfolding entriesFrom

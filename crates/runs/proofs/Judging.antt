@@ -1,5 +1,5 @@
 -- Acceptance at a place, test by test, and what is reported.
-use mathlib.Core.Path.{_≡_}
+use mathlib.Core.Path.{_≡_, sym}
 use mathlib.Core.Bool.{Bool, true, false}
 use mathlib.Core.List.{List}
 use Prim.Native.Nat.{ℕ, suc, _+_, _-_, _≤_, _<_}
@@ -24,14 +24,14 @@ module _ (y : List ℕ) (reverse : Bool) (i j m : ℕ) where
       }
 
 module _ (y : List ℕ) (i j m k l : ℕ) where
-  pub reports-first : (x : ℕ) → Judged y false i j m x → 0 < x → record { start = i - x; end = j + m; period = j - i } ≡ reportOf y i j m k l
+  pub reports-first : (x : ℕ) → Judged y false i j m x → 0 < x → {s e p : ℕ} → s ≡ i - x → e ≡ j + m → p ≡ j - i → record { start = s; end = e; period = p } ≡ reportOf y i j m k l
   unfolding reportOf reports
-  reports-first x J h = let u = J .yes h in rw (u .0, reportOf, u .1)
+  reports-first x J h a b c = let u = J .yes h in rw (u .0, reportOf, sym (u .1), a, b, c)
 
   module _ (x : ℕ) (J : Judged y false i j m x) (h : x ≡ 0) where
-    pub reports-second : (z : ℕ) → Judged y true i k l z → 0 < z → record { start = i - z; end = k + l; period = k - i } ≡ reportOf y i j m k l
+    pub reports-second : (z : ℕ) → Judged y true i k l z → 0 < z → {s e p : ℕ} → s ≡ i - z → e ≡ k + l → p ≡ k - i → record { start = s; end = e; period = p } ≡ reportOf y i j m k l
     unfolding reportOf reports
-    reports-second z K g = let u = K .yes g in rw (J .no-run h, u .0, reportOf, u .1)
+    reports-second z K g a b c = let u = K .yes g in rw (J .no-run h, u .0, reportOf, sym (u .1), a, b, c)
 
     pub reports-none : (z : ℕ) → Judged y true i k l z → z ≡ 0 → noRun ≡ reportOf y i j m k l
     unfolding reportOf

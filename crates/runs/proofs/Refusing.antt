@@ -7,7 +7,7 @@ use Prim.Native.Nat.{ℕ, _≤_, _<_}
 use native.Mathlib.Omega.{arith}
 use lib.Dec.{eqb}
 use lib.ListN.{length}
-use borrow.Author.Tests.{lt-ltb, le-ltb, ltb-false, eq-eqb, ne-eqb, eqb-true, not-false}
+use borrow.Author.Tests.{lt-ltb, le-ltb, ltb-false, eq-eqb, ne-eqb}
 use Rattle.refusal.specs.declared.Refusal.{Refusal}
 use Rattle.refusal.specs.declared.Refusal.the-variants.{TooLong, TableLength, ListLengths, TooManyRuns}
 use Rattle.refusal.specs.declared.Answer.{Answer}
@@ -16,6 +16,7 @@ use Rattle.refusal.specs.Answers.{answered}
 use Rattle.refusal.specs.Numbers.{numberOf, numberIf, firstOf, unlessRefused}
 use Rattle.refusal.specs.Conditions.{tooLong}
 use Rattle.refusal.proofs.Numbers.{positive, neither}
+use Rattle.refusal.proofs.Tables.{not-off}
 use Rattle.refusal.proofs.Answers.{answered-refused}
 use Rattle.repeats.specs.Runs.{Run}
 use Rattle.repeats.specs.Report.{runs}
@@ -159,7 +160,7 @@ pub record Fitting (n a b c d e f starts ends periods : ℕ) : Type 0 where
   pub as-periods : periods ≡ starts
 
 same-length : (a n : ℕ) (others : Bool) → not (eqb a n) || others ≡ false → (a ≡ n) × (others ≡ false)
-same-length a n others h = let u = neither (not (eqb a n)) others h in (eqb-true a n (not-false _ (u .0)), u .1)
+same-length a n others h = let u = neither (not (eqb a n)) others h in (not-off a n (u .0), u .1)
 
 pub fitting : (n a b c d e f starts ends periods : ℕ) → lengthsRefusal n (a ∷ b ∷ c ∷ d ∷ e ∷ f ∷ []) starts ends periods ≡ 0 → Fitting n a b c d e f starts ends periods
 unfolding lengthsRefusal
@@ -181,5 +182,5 @@ fitting n a b c d e f starts ends periods h =
       reverseNext = t .0;
       reverseMatch = u .0;
       as-ends = v .0;
-      as-periods = eqb-true periods starts (not-false _ (v .1));
+      as-periods = not-off periods starts (v .1);
     }

@@ -21,7 +21,7 @@ use Rattle.repeats.specs.Runs.{Run, noRun}
 use Rattle.repeats.specs.Refusals.{Lists}
 use Rattle.repeats.specs.Answers.{entryOf, listsOf}
 use Rattle.runs.specs.States.{lists, entryIn, entriesFrom, entries}
-use Rattle.runs.proofs.Inserting.{entries-length}
+use Rattle.runs.proofs.Inserting.{entries-count}
 use Rattle.runs.specs.Lists.{cutAt, roomRefusal, Written}
 use Rattle.runs.specs.Reported.{workOf}
 
@@ -47,6 +47,10 @@ cut-in c t k h = rw (lt-ltb k c h, cutAt)
 cut-out : (c : ℕ) (t : List ℕ) (k : ℕ) → c ≤ k → 0 ≡ cutAt c t k
 unfolding cutAt
 cut-out c t k h = rw (le-ltb k c h, cutAt)
+
+-- as many of them
+pub cut-alike : {c c′ : ℕ} (t : List ℕ) (size : ℕ) → c ≡ c′ → tabulate size (cutAt c t) ≡ tabulate size (cutAt c′ t)
+cut-alike t size e = rw e
 
 -- c entries are copied, and the list is cleared behind them
 pub copied-all : {t : List ℕ} {c k i v : ℕ} {d₀ d e : List ℕ} → Copied t k d₀ d → c ≤ k → e ≡ clearedFrom i v d → i ≡ c → v ≡ 0 → e ≡ tabulate (length d₀) (cutAt c t)
@@ -93,7 +97,7 @@ module _ (t : Lists) (c : ℕ) (before : Lists) where
   size = length (before .starts)
 
   count : c ≡ length l
-  count = sym (entries-length t 0 c)
+  count = entries-count t c refl
 
   -- the lists have fewer entries
   pub left : size < c → Written l before before (NoValue TooManyRuns)

@@ -12,7 +12,7 @@ use Rattle.repeats.specs.Report.{runs}
 use Rattle.repeats.specs.Refusals.{Lists, lengthsRefusal}
 use Rattle.repeats.proofs.Gathering.{runs-most}
 use Rattle.runs.specs.States.{lists, entries}
-use Rattle.runs.proofs.Inserting.{entries-length}
+use Rattle.runs.proofs.Inserting.{entries-count}
 use Rattle.runs.specs.Reported.{workOf}
 use Rattle.runs.proofs.Writing.{cleared-six}
 use Rattle.runs.proofs.Refusing.{Fitting, fitting, refused-by-lengths, reported}
@@ -63,7 +63,7 @@ gathered w = w .before .before .before .before .before .before .before .before .
 
 -- as many as fit the tables
 count : (g : tie.After-gather-all) → g .gather-all .result ≡ length (runs (y (start (told g))))
-count g = sym (entries-length _ 0 (g .gather-all .result)) ∙ ap length (g .gather-all .ensures)
+count g = entries-count _ _ (g .gather-all .ensures)
 
 returns : tie.Need-returns
 returns c =

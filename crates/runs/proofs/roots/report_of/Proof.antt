@@ -6,10 +6,10 @@ use Rattle.runs.proofs.roots.report_of.Statement.{statement}
 use Rattle.runs.proofs.roots.report_of.Tie as tie
 
 returns : tie.Need-returns
-returns c = reports-first _ _ _ _ _ _ _ (c .before .accepted-left .ensures) (c .if1 .taken)
+returns c = reports-first _ _ _ _ _ _ _ (c .before .accepted-left .ensures) (omega arith) (omega arith) (omega arith) (omega arith)
 
 returns-2 : tie.Need-returns-2
-returns-2 c = reports-second _ _ _ _ _ _ _ (c .before .before .before .accepted-left .ensures) (omega arith) _ (c .before .accepted-left2 .ensures) (c .if2 .taken)
+returns-2 c = reports-second _ _ _ _ _ _ _ (c .before .before .before .accepted-left .ensures) (omega arith) _ (c .before .accepted-left2 .ensures) (omega arith) (omega arith) (omega arith) (omega arith)
 
 returns-3 : tie.Need-returns-3
 returns-3 c = reports-none _ _ _ _ _ _ _ (c .before .before .before .accepted-left .ensures) (omega arith) _ (c .before .accepted-left2 .ensures) (omega arith)
