@@ -48,10 +48,6 @@ cut-out : (c : ℕ) (t : List ℕ) (k : ℕ) → c ≤ k → 0 ≡ cutAt c t k
 unfolding cutAt
 cut-out c t k h = rw (le-ltb k c h, cutAt)
 
--- as many of them
-pub cut-alike : {c c′ : ℕ} (t : List ℕ) (size : ℕ) → c ≡ c′ → tabulate size (cutAt c t) ≡ tabulate size (cutAt c′ t)
-cut-alike t size e = rw e
-
 -- c entries are copied, and the list is cleared behind them
 pub copied-all : {t : List ℕ} {c k i v : ℕ} {d₀ d e : List ℕ} → Copied t k d₀ d → c ≤ k → e ≡ clearedFrom i v d → i ≡ c → v ≡ 0 → e ≡ tabulate (length d₀) (cutAt c t)
 copied-all {t} {c} {k} {i} {v} {d₀} {d} {e} C h z p q =

@@ -1,9 +1,8 @@
 -- `runs::write_lists` meets its contract.
-use mathlib.Core.Path.{_∙_}
 use native.Mathlib.Omega.{arith}
 use Rattle.repeats.specs.Refusals.{Lists}
 use Rattle.runs.specs.States.{lists}
-use Rattle.runs.proofs.Writing.{cut-alike, left, written}
+use Rattle.runs.proofs.Writing.{left, written}
 use Rattle.runs.proofs.write_lists.Statement.{statement}
 use Rattle.runs.proofs.write_lists.Tie as tie
 
@@ -20,16 +19,16 @@ returns c = let s = c .before .before .before .before .before .before .before in
 returns-2 : tie.Need-returns-2
 returns-2 c =
     let s = c .before .before .before .before .before .before .before .before .before .before .before .before .before .before .before .before .before .before .before in
-    written (tables s) (s .args .count) (before s) (omega arith) (c .before .before .before .before .before .before .before .before .before .before .copy .ensures ∙ cut-alike (tables s .starts) _ (omega arith)) (c .before .before .before .before .before .before .copy2 .ensures ∙ cut-alike (tables s .ends) _ (omega arith)) (c .before .before .copy3 .ensures ∙ cut-alike (tables s .periods) _ (omega arith)) (s .pre .1 .0) (s .pre .1 .1)
+    written (tables s) (s .args .count) (before s) (omega arith) (c .before .before .before .before .before .before .before .before .before .before .copy .ensures) (c .before .before .before .before .before .before .copy2 .ensures) (c .before .before .copy3 .ensures) (s .pre .1 .0) (s .pre .1 .1)
     (omega arith)
 
 pub write-lists-spec : {M : Type 1} → statement M
 write-lists-spec =
     tie.close
     (tie.spec returns
-    (λ c κs. let s = c .before .before .before .before .before .before .before .before in (omega (arith, s .pre .0 .0), omega arith))
-    (λ c κs. let s = c .before .before .before .before .before .before .before .before .before .before .before .before in (omega (arith, s .pre .0 .1), omega arith))
-    (λ c κs. let s = c .before .before .before .before .before .before .before .before .before .before .before .before .before .before .before .before in (omega (arith, s .pre .0 .2), omega arith))
+    (λ c κs. let s = c .before .before .before .before .before .before .before .before in (s .pre .0 .0, omega arith))
+    (λ c κs. let s = c .before .before .before .before .before .before .before .before .before .before .before .before in (s .pre .0 .1, omega arith))
+    (λ c κs. let s = c .before .before .before .before .before .before .before .before .before .before .before .before .before .before .before .before in (s .pre .0 .2, omega arith))
     (λ c. c .before .before .before .before .before .before .before .before .before .starts .given)
     (λ c. c .before .before .before .before .before .ends .given)
     (λ c. c .before .periods .given)
