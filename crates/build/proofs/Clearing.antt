@@ -5,7 +5,9 @@ use lib.ListN.{length, replicate}
 use Rattle.suffix.specs.Rows.{Tables}
 use Rattle.entries.proofs.Clearing.{cleared-all, cleared-set, cleared-more, cleared-same}
 use Rattle.reuse.specs.Steps.{recordPrevious, recordNext}
-use Rattle.build.specs.States.{tablesOf, clearedTables}
+use Rattle.build.specs.States.{clearedTables}
+use Rattle.build.specs.Built.{tablesOf}
+use Rattle.build.specs.States.{clearedTables}
 
 module _ (n : ℕ) (t : Tables) where
   pub next-recorded : (k l r m : ℕ) → l < k → clearedTables n k (recordNext t l r m) ≡ recordNext (clearedTables n k t) l r m

@@ -26,7 +26,9 @@ use Rattle.reuse.proofs.Row.{Sizes, next-sizes, previous-sizes, AtSettled, Done
 use Rattle.reuse.proofs.Exact.{rows-done}
 use Rattle.build.specs.declared.State.{State}
 use Rattle.build.specs.declared.SettledPair as declared
-use Rattle.build.specs.States.{progressOf, pairOf, tablesOf, clearedTables, buildState, Safe, settledFrom}
+use Rattle.build.specs.States.{progressOf, pairOf, clearedTables, buildState, Safe, settledFrom}
+use Rattle.build.specs.Built.{tablesOf}
+use Rattle.build.specs.States.{progressOf, pairOf, clearedTables, buildState, Safe, settledFrom}
 use Rattle.entries.specs.Cleared.{clearedFrom}
 use Rattle.entries.proofs.Clearing.{cleared-length, cleared-get}
 use Rattle.build.proofs.Clearing.{next-recorded, row-recorded, previous-none, all-cleared}

@@ -13,7 +13,9 @@ use Rattle.suffix.specs.Rows.{Tables}
 use Rattle.reuse.specs.Steps.{Progress, ScanReport, SettledPair, scan, scanFrom, reuse, settle}
 use Rattle.reuse.proofs.Scan.{scan-equal, scan-unequal}
 use Rattle.reuse.proofs.Settle.{settle-scan, settle-by-next, settle-by-previous}
-use Rattle.build.specs.States.{tablesOf, clearedTables, settledFrom}
+use Rattle.build.specs.States.{clearedTables, settledFrom}
+use Rattle.build.specs.Built.{tablesOf}
+use Rattle.build.specs.States.{clearedTables, settledFrom}
 use Rattle.entries.proofs.Clearing.{cleared-get}
 
 -- two pairs with equal numbers

@@ -14,14 +14,16 @@ use Rattle.reuse.specs.Steps.{equalComparisons, unequalComparisons, comparisons
 use Rattle.build.specs.declared.Built.{Built}
 use Rattle.build.specs.declared.Built.the-variants.{Finished, Halted, Refused}
 
+abbrev pub tablesOf : List ℕ → List ℕ → List ℕ → List ℕ → Tables
+tablesOf previous next previousMatch nextMatch = record { previous = previous; next = next; previousMatch = previousMatch; nextMatch = nextMatch }
+
 -- the four tables and the tree that are lent to a build
 pub record Lent : Type 0 where
   pub tables : Tables
   pub tree : List ℕ
 
 abbrev pub lent : List ℕ → List ℕ → List ℕ → List ℕ → List ℕ → Lent
-lent previous next previousMatch nextMatch tree =
-    record { tables = record { previous = previous; next = next; previousMatch = previousMatch; nextMatch = nextMatch }; tree = tree }
+lent previous next previousMatch nextMatch tree = record { tables = tablesOf previous next previousMatch nextMatch; tree = tree }
 
 -- what R rows leave there
 unfoldable pub lentAfter : List ℕ → ℕ → Lent

@@ -1,2 +1,2 @@
-pub mod States
 pub mod Built
+pub mod States

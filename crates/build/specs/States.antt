@@ -9,6 +9,7 @@ use Rattle.reuse.specs.Steps.{Progress, BuildState, ScanReport, SettledPair, se
 use Rattle.build.specs.declared.State.{State}
 use Rattle.build.specs.declared.ScanReport as declaredReport
 use Rattle.build.specs.declared.SettledPair as declared
+use Rattle.build.specs.Built.{tablesOf}
 
 -- the string that the rows are of: the ranks of the letters, in their order or in its reverse
 abbrev pub stringOf : (reverse : Bool) → List ℕ → List ℕ
@@ -22,9 +23,6 @@ reportOf u = record { match = u .matched; leftSmaller = u .«left_smaller»; equ
 
 abbrev pub pairOf : declared.SettledPair → SettledPair
 pairOf u = record { progress = progressOf (u .state); match = u .matched; leftSmaller = u .«left_smaller» }
-
-abbrev pub tablesOf : List ℕ → List ℕ → List ℕ → List ℕ → Tables
-tablesOf previous next previousMatch nextMatch = record { previous = previous; next = next; previousMatch = previousMatch; nextMatch = nextMatch }
 
 -- tables for n letters with none and match 0 for every position from k on
 abbrev pub clearedTables : ℕ → ℕ → Tables → Tables

@@ -1,4 +1,4 @@
-// The build: from a string to four tables and a tree, in a given number of rows.
+// The build: from a string to four tables and a tree, in a given number of rows; and to the four tables alone, in either order.
 ghost use mathlib.Core.Path.{_≡_};
 ghost use mathlib.Core.Bool.{false};
 ghost use mathlib.Core.List.{[]};
@@ -7,8 +7,8 @@ ghost use lib.ListN.{length, getD, set, take, replicate};
 ghost use Rattle.suffix.specs.Ranks.{ranks, oriented};
 ghost use Rattle.suffix.specs.Tree.{treeLength, treeBytes};
 ghost use Rattle.reuse.specs.Steps.{scan as stepScan, scanned, afterRows};
-ghost use Rattle.build.specs.States.{stringOf, progressOf, reportOf, pairOf, tablesOf, clearedTables, buildState, Safe, settledFrom};
-ghost use Rattle.build.specs.Built.{lent, BuiltExactly, TablesBuilt};
+ghost use Rattle.build.specs.States.{stringOf, progressOf, reportOf, pairOf, clearedTables, buildState, Safe, settledFrom};
+ghost use Rattle.build.specs.Built.{tablesOf, lent, BuiltExactly, TablesBuilt};
 use entries::clear_from;
 use refusal::Refusal;
 use refusal::Verdict;
@@ -87,7 +87,7 @@ fn record_entry(table: &mut [u32], matches: &mut [u32], i: usize, value: usize, 
     matches[i] = m as u32;
 }
 
-// Step 1: compares the letters at l + m and r + m, raising m while they are equal. So many comparisons were made before.
+// Step 1: compares the letters at l + m and r + m, raising m while they are equal. `equal` and `unequal` count the comparisons made so far.
 fn scan(
     letters: &[u8],
     reverse: bool,
@@ -219,7 +219,7 @@ fn set_bit(tree: &mut [u8], k: usize)
     }
 }
 
-// All rows, over a tree that is cleared. What they have not written in the tables is left as it is. The tree may be shorter than the
+// The first `rows` rows, over a tree that is cleared. What they have not written in the tables is left as it is. The tree may be shorter than the
 // letters ask for, or empty: it is written as far as it goes.
 fn build_rows(
     letters: &[u8],

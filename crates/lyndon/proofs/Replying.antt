@@ -15,7 +15,7 @@ use Rattle.brackets.specs.Answers as brackets
 use Rattle.refusal.specs.Answers as refusal
 use Rattle.word.specs.Word.{WordAnswered}
 use Rattle.word.proofs.Laws.{part-refused, start-refused, start-taken}
-use Rattle.runs.specs.States.{lists}
+use Rattle.repeats.specs.Refusals.{lists}
 use Rattle.runs.specs.Reported.{workOf, Reported}
 use Rattle.cabinet.specs.Answers.{Written, EntryRead}
 use Rattle.lyndon.specs.declared.BuildReply.{BuildReply}

@@ -9,7 +9,7 @@ use Rattle.brackets.specs.Answers as brackets
 use Rattle.refusal.specs.Answers as refusal
 use Rattle.word.specs.Word.{wordPart, wordStart}
 use Rattle.repeats.specs.Answers as repeats
-use Rattle.runs.specs.States.{lists}
+use Rattle.repeats.specs.Refusals.{lists}
 use Rattle.runs.specs.Reported.{workOf}
 use Rattle.cabinet.specs.Refusals.{writeRefusal, readRefusal}
 use Rattle.cabinet.specs.Answers.{writtenFile, readBody, readPlace, readLetters}

@@ -32,7 +32,7 @@ module _ (top : ℕ) (y : List ℕ) where
         record {
           ends = letters-end y;
           ends′ = rw (oriented-length top true y) at (letters-end (orientedFrom top true y));
-          sum = λ k h. reversed-sum top y k h (B .at k h);
+          sum = λ k h. reversed-sum top y k h (omega (arith, B .at k h));
         }
 
     pub pattern : (o : Bool) → SamePattern (letter y) (f o) (length y)

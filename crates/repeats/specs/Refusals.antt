@@ -15,6 +15,9 @@ pub record Lists : Type 0 where
   pub ends : List ℕ
   pub periods : List ℕ
 
+abbrev pub lists : List ℕ → List ℕ → List ℕ → Lists
+lists starts ends periods = record { starts = starts; ends = ends; periods = periods }
+
 -- "Work tables have n entries each, or 2 is returned.": of work tables of these lengths
 abbrev pub workLengthOff : ℕ → List ℕ → Bool
 workLengthOff n [] = false

@@ -18,9 +18,9 @@ use Rattle.refusal.proofs.Answers.{answered-value, answered-refused}
 use Rattle.entries.specs.Cleared.{clearedFrom}
 use Rattle.entries.proofs.Clearing.{cleared-length, cleared-alike, cleared-get, cleared-value}
 use Rattle.repeats.specs.Runs.{Run, noRun}
-use Rattle.repeats.specs.Refusals.{Lists}
+use Rattle.repeats.specs.Refusals.{Lists, lists}
 use Rattle.repeats.specs.Answers.{entryOf, listsOf}
-use Rattle.runs.specs.States.{lists, entryIn, entriesFrom, entries}
+use Rattle.runs.specs.States.{entryIn, entriesFrom, entries}
 use Rattle.runs.proofs.Inserting.{entries-count}
 use Rattle.runs.specs.Lists.{cutAt, roomRefusal, Written}
 use Rattle.runs.specs.Reported.{workOf}

@@ -19,9 +19,6 @@ use Rattle.runs.specs.declared.roots.Run as declared
 abbrev pub runOf : declared.Run → Run
 runOf r = record { start = r .start; end = r .end; period = r .period }
 
-abbrev pub lists : List ℕ → List ℕ → List ℕ → Lists
-lists starts ends periods = record { starts = starts; ends = ends; periods = periods }
-
 -- entry k of three tables
 abbrev pub entryIn : Lists → ℕ → Run
 entryIn t k = record { start = getD (t .starts) k 0; end = getD (t .ends) k 0; period = getD (t .periods) k 0 }

@@ -6,9 +6,9 @@ ghost use lib.ListN.{length};
 ghost use Rattle.suffix.specs.Search.{tabulate};
 ghost use Rattle.suffix.specs.Ranks.{ranks};
 ghost use Rattle.refusal.specs.Numbers.{verdictNumber};
-ghost use Rattle.repeats.specs.Refusals.{workLengthOff, lengthsRefusal};
+ghost use Rattle.repeats.specs.Refusals.{workLengthOff, lengthsRefusal, lists};
 ghost use Rattle.repeats.specs.Answers.{zeros};
-ghost use Rattle.runs.specs.States.{lists, entries};
+ghost use Rattle.runs.specs.States.{entries};
 ghost use Rattle.runs.specs.Lists.{cutAt, Written};
 ghost use Rattle.runs.specs.Reported.{workOf, Reported};
 use entries::clear_from;
@@ -32,6 +32,7 @@ fn copy(table: &[u32], count: usize, list: &mut [u32])
     clear_from(list, count, 0);
 }
 
+// Whether one of six lengths is not n.
 fn any_off(n: usize, a: usize, b: usize, c: usize, d: usize, e: usize, f: usize) -> bool
     ensures { λ r. ⌜ r ≡ workLengthOff n (a ∷ b ∷ c ∷ d ∷ e ∷ f ∷ []) ⌝ }
 {
@@ -56,7 +57,7 @@ fn any_off(n: usize, a: usize, b: usize, c: usize, d: usize, e: usize, f: usize)
     false
 }
 
-// Whether lengths refuse: 1, 2 or 12.
+// The verdict on lengths: refused 1, 2 or 12.
 fn verdict_on(
     n: usize,
     previous: usize,
@@ -96,18 +97,18 @@ fn verdict_on(
 
 // Writes the first `count` entries of three tables to the three lists, and 0 beyond. Where the lists have fewer entries they are left.
 fn write_lists(
-    previous: &[u32],
-    previous_match: &[u32],
-    next: &[u32],
+    found_starts: &[u32],
+    found_ends: &[u32],
+    found_periods: &[u32],
     count: usize,
     starts: &mut [u32],
     ends: &mut [u32],
     periods: &mut [u32],
 ) -> Answer
-    requires { ⌜ (count ≤ length (now previous)) × (count ≤ length (now «previous_match»)) × (count ≤ length (now next)) ⌝ }
+    requires { ⌜ (count ≤ length (now «found_starts»)) × (count ≤ length (now «found_ends»)) × (count ≤ length (now «found_periods»)) ⌝ }
     requires { ⌜ (length (now ends) ≡ length (now starts)) × (length (now periods) ≡ length (now starts)) ⌝ }
     ensures { λ r.
-        ⌜ Written (entries (lists (now (previous .entry)) (now («previous_match» .entry)) (now (next .entry))) count)
+        ⌜ Written (entries (lists (now («found_starts» .entry)) (now («found_ends» .entry)) (now («found_periods» .entry))) count)
         (lists (now (starts .entry)) (now (ends .entry)) (now (periods .entry)))
         (lists (now (starts .exit)) (now (ends .exit)) (now (periods .exit)))
         r ⌝ }
@@ -115,9 +116,9 @@ fn write_lists(
     if starts.len() < count {
         return Answer::NoValue(Refusal::TooManyRuns);
     }
-    copy(previous, count, starts);
-    copy(previous_match, count, ends);
-    copy(next, count, periods);
+    copy(found_starts, count, starts);
+    copy(found_ends, count, ends);
+    copy(found_periods, count, periods);
     Answer::Value(count)
 }
 

@@ -8,7 +8,8 @@ ghost use Rattle.suffix.specs.Ranks.{ranks};
 ghost use Rattle.repeats.specs.Report.{runs, before};
 ghost use Rattle.repeats.specs.Roots.{leftOf};
 ghost use Rattle.repeats.specs.Gathered.{reportOf};
-ghost use Rattle.runs.specs.States.{runOf, lists, entryIn, entries, stored, Has, passes, Within, Judged, Insertable, Put, Tabled};
+ghost use Rattle.repeats.specs.Refusals.{lists};
+ghost use Rattle.runs.specs.States.{runOf, entryIn, entries, stored, Has, passes, Within, Judged, Insertable, Put, Tabled};
 
 // A run, or 0 three times for none.
 struct Run {
@@ -155,7 +156,7 @@ fn move_up(starts: &mut [u32], ends: &mut [u32], periods: &mut [u32], j: usize)
     periods[j] = periods[j - 1];
 }
 
-// Puts a run into the first `count` entries, where it belongs; they are then as many as is returned.
+// Puts a run, if it is one, into the first `count` entries, where it belongs; they are then as many as is returned.
 fn insert(
     starts: &mut [u32],
     ends: &mut [u32],
@@ -196,7 +197,8 @@ fn read(table: &[u32], i: usize) -> usize
     wide(table[i])
 }
 
-// The runs of the letters, as the first entries of three tables, of which `periods` holds next at entry.
+// The runs of the letters, as the first entries of three tables, of which `periods` holds next at entry: a place reports one
+// run at most, so its next is read before it is written over.
 fn gather(
     letters: &[u8],
     starts: &mut [u32],

@@ -1,4 +1,5 @@
--- Periods of a string, its rotations, and its letters repeated without end: what runs (document 02, T-03) and rings (T-11) share.
+-- Periods, by which runs are defined (document 02, T-03); and rotations and a string repeated without end, with which the laws on runs find the least word of
+-- a run, and of which rings (T-11) are.
 use mathlib.Core.Path.{_≡_}
 use mathlib.Core.Logic.{_≢_}
 use mathlib.Core.Bool.{Bool, false}

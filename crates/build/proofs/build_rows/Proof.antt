@@ -9,7 +9,9 @@ use Rattle.suffix.specs.Tree.{treeLength, treeBytes}
 use Rattle.suffix.proofs.Rows.{tables-are}
 use Rattle.reuse.specs.Steps.{recordPrevious, recordNext}
 use Rattle.reuse.proofs.Row.{Sizes}
-use Rattle.build.specs.States.{stringOf, tablesOf}
+use Rattle.build.specs.States.{stringOf}
+use Rattle.build.specs.Built.{tablesOf}
+use Rattle.build.specs.States.{stringOf}
 use Rattle.build.proofs.Strings.{string-length}
 use Rattle.build.proofs.Invariants.{raised, AtRows, AtWalk}
 use Rattle.build.proofs.Invariants as law

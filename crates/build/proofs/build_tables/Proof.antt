@@ -9,7 +9,9 @@ use Rattle.suffix.specs.Rows.{Tables}
 use Rattle.refusal.specs.Numbers.{verdictNumber}
 use Rattle.refusal.specs.Conditions.{tablesRefusal}
 use Rattle.refusal.proofs.Tables as verdict
-use Rattle.build.specs.States.{stringOf, tablesOf}
+use Rattle.build.specs.States.{stringOf}
+use Rattle.build.specs.Built.{tablesOf}
+use Rattle.build.specs.States.{stringOf}
 use Rattle.build.proofs.Strings.{string-length, tables-refusal-is}
 use Rattle.build.proofs.Alone as alone
 use Rattle.build.proofs.build_tables.Statement.{statement}

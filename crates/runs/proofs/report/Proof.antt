@@ -9,9 +9,9 @@ use Rattle.suffix.specs.Ranks.{ranks}
 use Rattle.suffix.proofs.Ranks.{ranks-length}
 use Rattle.refusal.specs.Numbers.{verdictNumber}
 use Rattle.repeats.specs.Report.{runs}
-use Rattle.repeats.specs.Refusals.{Lists, lengthsRefusal}
+use Rattle.repeats.specs.Refusals.{Lists, lengthsRefusal, lists}
 use Rattle.repeats.proofs.Gathering.{runs-most}
-use Rattle.runs.specs.States.{lists, entries}
+use Rattle.runs.specs.States.{entries}
 use Rattle.runs.proofs.Inserting.{entries-count}
 use Rattle.runs.specs.Reported.{workOf}
 use Rattle.runs.proofs.Writing.{cleared-six}

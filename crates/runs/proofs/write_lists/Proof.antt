@@ -1,14 +1,13 @@
 -- `runs::write_lists` meets its contract.
 use native.Mathlib.Omega.{arith}
-use Rattle.repeats.specs.Refusals.{Lists}
-use Rattle.runs.specs.States.{lists}
+use Rattle.repeats.specs.Refusals.{Lists, lists}
 use Rattle.runs.proofs.Writing.{left, written}
 use Rattle.runs.proofs.write_lists.Statement.{statement}
 use Rattle.runs.proofs.write_lists.Tie as tie
 
 -- the tables, and the lists as they were
 abbrev tables : tie.Start → Lists
-tables s = let g = s .args in lists (g .previous .now) (g .previous-match .now) (g .next .now)
+tables s = let g = s .args in lists (g .found-starts .now) (g .found-ends .now) (g .found-periods .now)
 
 abbrev before : tie.Start → Lists
 before s = let g = s .args in lists (g .starts .now) (g .ends .now) (g .periods .now)

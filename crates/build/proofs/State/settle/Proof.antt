@@ -7,7 +7,9 @@ use native.Mathlib.Omega.{arith}
 use lib.ListN.{length}
 use Rattle.reuse.specs.Steps.{scanned, scanFrom}
 use Rattle.reuse.proofs.Settle.{reuse-copy, reuse-scan}
-use Rattle.build.specs.States.{stringOf, progressOf, tablesOf, Safe, settledFrom}
+use Rattle.build.specs.States.{stringOf, progressOf, Safe, settledFrom}
+use Rattle.build.specs.Built.{tablesOf}
+use Rattle.build.specs.States.{stringOf, progressOf, Safe, settledFrom}
 use Rattle.build.proofs.Settling.{scans, by-next, by-previous}
 use Rattle.build.proofs.State.settle.Statement.{statement}
 use Rattle.build.proofs.State.settle.Tie as tie

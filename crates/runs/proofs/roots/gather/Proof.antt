@@ -10,7 +10,8 @@ use Rattle.suffix.specs.Nearest.{next, nextMatch}
 use Rattle.suffix.proofs.Ranks.{ranks-length, ranks-most}
 use Rattle.repeats.specs.Roots.{AtMost}
 use Rattle.repeats.specs.Gathered.{reportAt}
-use Rattle.runs.specs.States.{lists, runOf, Within}
+use Rattle.repeats.specs.Refusals.{lists}
+use Rattle.runs.specs.States.{runOf, Within}
 use Rattle.runs.proofs.Gathering.{Gathering, gathering-none, gathering-has, gathering-more, gathering-done, insertable, report-read, within-next, nexts-length, matches-length, next-entry, match-entry}
 use Rattle.runs.proofs.roots.gather.Statement.{statement}
 use Rattle.runs.proofs.roots.gather.Tie as tie

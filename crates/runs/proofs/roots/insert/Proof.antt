@@ -2,8 +2,8 @@
 use mathlib.Core.Path.{_∙_}
 use Prim.Native.Nat.{_<_}
 use native.Mathlib.Omega.{arith}
-use Rattle.repeats.specs.Refusals.{Lists}
-use Rattle.runs.specs.States.{lists, runOf, Has}
+use Rattle.repeats.specs.Refusals.{Lists, lists}
+use Rattle.runs.specs.States.{runOf, Has}
 use Rattle.runs.proofs.Inserting.{Shifted, shifted-none, shifted-has, shifted-more, inserted, put-nothing, passes-some}
 use Rattle.runs.proofs.roots.insert.Statement.{statement}
 use Rattle.runs.proofs.roots.insert.Tie as tie

@@ -3,7 +3,7 @@ use mathlib.Core.Path.{sym, _∙_}
 use native.Mathlib.Omega.{arith}
 use borrow.Author.Needs.{needs}
 use Rattle.suffix.specs.Ranks.{ranks}
-use Rattle.build.specs.States.{tablesOf}
+use Rattle.build.specs.Built.{tablesOf}
 use Rattle.build.proofs.Strings.{string-length}
 use Rattle.runs.proofs.Gathering.{tabled}
 use Rattle.runs.proofs.roots.tables_of.Statement.{statement}
