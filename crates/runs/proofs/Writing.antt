@@ -16,10 +16,10 @@ use Rattle.refusal.specs.Answers.{value}
 use Rattle.refusal.proofs.Numbers.{unless-taken, unless-refused}
 use Rattle.refusal.proofs.Answers.{answered-value, answered-refused}
 use Rattle.entries.specs.Cleared.{clearedFrom}
-use Rattle.entries.proofs.Clearing.{cleared-length, cleared-alike, cleared-get, cleared-value}
+use Rattle.entries.proofs.Clearing.{cleared-length, cleared-alike, cleared-all, cleared-get, cleared-value}
 use Rattle.repeats.specs.Runs.{Run, noRun}
 use Rattle.repeats.specs.Refusals.{Lists, lists}
-use Rattle.repeats.specs.Answers.{entryOf, listsOf}
+use Rattle.repeats.specs.Answers.{entryOf, listsOf, zeros}
 use Rattle.runs.specs.States.{entryIn, entriesFrom, entries}
 use Rattle.runs.proofs.Inserting.{entries-count}
 use Rattle.runs.specs.Lists.{cutAt, roomRefusal, Written}
@@ -116,6 +116,9 @@ module _ (t : Lists) (c : ℕ) (before : Lists) where
       }
 
 -- ---- six tables
+
+pub all-cleared : {k v : ℕ} (t : List ℕ) → k ≡ 0 → v ≡ 0 → clearedFrom k v t ≡ zeros t
+all-cleared t p q = cleared-alike t p q ∙ cleared-all 0 t
 
 pub six-are : {a b c d e f a′ b′ c′ d′ e′ f′ : List ℕ} → a ≡ a′ → b ≡ b′ → c ≡ c′ → d ≡ d′ → e ≡ e′ → f ≡ f′ → workOf a b c d e f ≡ workOf a′ b′ c′ d′ e′ f′
 six-are p q r s u v = rw (p, q, r, s, u, v)

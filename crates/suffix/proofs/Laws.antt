@@ -9,7 +9,6 @@ use native.Mathlib.Nat.{suc-inj}
 use lib.Dec.{ltb, leb·suc-suc}
 use lib.ListN.{length, drop}
 use borrow.Author.Tests.{lt-ltb, le-ltb}
-use Rattle.suffix.specs.Search.{tabulate}
 use Rattle.suffix.specs.Order.{suffixLess, lce}
 use Rattle.suffix.specs.Nearest.{previous, next, previousMatch, nextMatch}
 use Rattle.suffix.specs.Rows.{previousAfter, nextAfter, previousMatchAfter, nextMatchAfter, tablesAfter}

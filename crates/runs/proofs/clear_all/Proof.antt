@@ -1,20 +1,19 @@
 -- `runs::clear_all` meets its contract.
 use mathlib.Core.Path.{_∙_}
 use native.Mathlib.Omega.{arith}
-use Rattle.entries.proofs.Clearing.{cleared-alike, cleared-all}
-use Rattle.runs.proofs.Writing.{six-are}
+use Rattle.runs.proofs.Writing.{all-cleared, six-are}
 use Rattle.runs.proofs.clear_all.Statement.{statement}
 use Rattle.runs.proofs.clear_all.Tie as tie
 
 returns : tie.Need-returns
 returns c =
     six-are
-    (c .before .before .before .before .before .before .before .before .before .before .before .before .before .before .before .before .before .before .before .before .before .before .clear-from .ensures ∙ cleared-alike _ (omega arith) (omega arith) ∙ cleared-all 0 _)
-    (c .before .before .before .before .before .before .before .before .before .before .before .before .before .before .before .before .before .before .clear-from2 .ensures ∙ cleared-alike _ (omega arith) (omega arith) ∙ cleared-all 0 _)
-    (c .before .before .before .before .before .before .before .before .before .before .before .before .before .before .clear-from3 .ensures ∙ cleared-alike _ (omega arith) (omega arith) ∙ cleared-all 0 _)
-    (c .before .before .before .before .before .before .before .before .before .before .clear-from4 .ensures ∙ cleared-alike _ (omega arith) (omega arith) ∙ cleared-all 0 _)
-    (c .before .before .before .before .before .before .clear-from5 .ensures ∙ cleared-alike _ (omega arith) (omega arith) ∙ cleared-all 0 _)
-    (c .before .before .clear-from6 .ensures ∙ cleared-alike _ (omega arith) (omega arith) ∙ cleared-all 0 _)
+    (c .before .before .before .before .before .before .before .before .before .before .before .before .before .before .before .before .before .before .before .before .before .before .clear-from .ensures ∙ all-cleared _ (omega arith) (omega arith))
+    (c .before .before .before .before .before .before .before .before .before .before .before .before .before .before .before .before .before .before .clear-from2 .ensures ∙ all-cleared _ (omega arith) (omega arith))
+    (c .before .before .before .before .before .before .before .before .before .before .before .before .before .before .clear-from3 .ensures ∙ all-cleared _ (omega arith) (omega arith))
+    (c .before .before .before .before .before .before .before .before .before .before .clear-from4 .ensures ∙ all-cleared _ (omega arith) (omega arith))
+    (c .before .before .before .before .before .before .clear-from5 .ensures ∙ all-cleared _ (omega arith) (omega arith))
+    (c .before .before .clear-from6 .ensures ∙ all-cleared _ (omega arith) (omega arith))
 
 pub clear-all-spec : {M : Type 1} → statement M
 clear-all-spec =
