@@ -1,11 +1,12 @@
 -- The string that the rows are of has as many ranks as there are letters, so a verdict on the letters is one on the string.
 use mathlib.Core.Path.{_≡_, sym, ap, _∙_}
-use mathlib.Core.Bool.{Bool}
+use mathlib.Core.Bool.{Bool, true, false}
 use mathlib.Core.List.{List}
-use Prim.Native.Nat.{ℕ}
-use lib.ListN.{length}
-use Rattle.suffix.specs.Ranks.{ranks, greatestRank}
-use Rattle.suffix.proofs.Ranks.{ranks-length, oriented-length}
+use Prim.Native.Nat.{ℕ, _-_, _<_}
+use native.Mathlib.Omega.{arith}
+use lib.ListN.{length, getD}
+use Rattle.suffix.specs.Ranks.{rank, ranks, greatestRank}
+use Rattle.suffix.proofs.Ranks.{ranks-length, ranks-entry, oriented-length, reversed-entry}
 use Rattle.refusal.specs.Conditions.{buildRefusal, tablesRefusal}
 use Rattle.suffix.specs.Rows.{Tables}
 use Rattle.build.specs.States.{stringOf}
@@ -28,3 +29,18 @@ pub tables-refusal-is : (reverse : Bool) (letters : List ℕ) (t : Tables)
 unfolding tablesRefusalOf
 tables-refusal-is reverse letters t =
     ap (λ n. tablesRefusal n (length (t .previous)) (length (t .next)) (length (t .previousMatch)) (length (t .nextMatch))) (sym (string-length reverse letters))
+
+-- equal letters have equal ranks
+pub string-same : (reverse : Bool) (letters : List ℕ) (i j : ℕ) → i < length letters → j < length letters → getD letters i 0 ≡ getD letters j 0
+    → getD (stringOf reverse letters) i 0 ≡ getD (stringOf reverse letters) j 0
+string-same reverse letters i j h g e = go reverse
+  where
+    ranks-same : getD (ranks letters) i 0 ≡ getD (ranks letters) j 0
+    ranks-same = ranks-entry letters i h ∙ ap rank e ∙ sym (ranks-entry letters j g)
+
+    go : (reverse : Bool) → getD (stringOf reverse letters) i 0 ≡ getD (stringOf reverse letters) j 0
+    go false = ranks-same
+    go true =
+        let a : i < length (ranks letters) = omega (arith, ranks-length letters) in
+        let b : j < length (ranks letters) = omega (arith, ranks-length letters) in
+        reversed-entry greatestRank (ranks letters) i a ∙ ap (λ x. greatestRank - x) ranks-same ∙ sym (reversed-entry greatestRank (ranks letters) j b)

@@ -104,15 +104,20 @@ fn scan(
     let mut m = from;
     let mut equals = equal;
     while r + m < letters.len() {
-        let a = rank_at(letters, reverse, l + m);
-        let b = rank_at(letters, reverse, r + m);
-        if a != b {
-            return ScanReport {
-                matched: m,
-                left_smaller: a < b,
-                equal: equals,
-                unequal: unequal + 1,
-            };
+        let x = letters[l + m];
+        let y = letters[r + m];
+        // equal letters have equal ranks
+        if x != y {
+            let a = rank_at(letters, reverse, l + m);
+            let b = rank_at(letters, reverse, r + m);
+            if a != b {
+                return ScanReport {
+                    matched: m,
+                    left_smaller: a < b,
+                    equal: equals,
+                    unequal: unequal + 1,
+                };
+            }
         }
         equals += 1;
         m += 1;

@@ -7,7 +7,7 @@ use Prim.Native.Nat.{ℕ}
 use native.Mathlib.Omega.{arith}
 use lib.ListN.{length}
 use borrow.Author.Tests.{ltb-true, eq-eqb, ne-eqb}
-use Rattle.suffix.specs.Ranks.{orientedFrom}
+use Rattle.suffix.specs.Ranks.{rank, orientedFrom}
 use Rattle.suffix.specs.Search.{allBelow, anyBelow}
 use Rattle.suffix.specs.Order.{lcp, lce}
 use Rattle.suffix.specs.Periods.{hasPeriod}
@@ -41,7 +41,7 @@ pub fewerRunsThanLetters : claims.FewerRunsThanLetters
 fewerRunsThanLetters y h = omega (arith, fewer-runs y (omega arith))
 
 pub bananaHasOneRun : claims.BananaHasOneRun
-unfolding runs runsAfter runsFrom runAt isRun hasPeriod allBelow anyBelow lce lcp
+unfolding rank runs runsAfter runsFrom runAt isRun hasPeriod allBelow anyBelow lce lcp
 bananaHasOneRun = refl
 
 pub reversedHasTheSame : claims.ReversedHasTheSame

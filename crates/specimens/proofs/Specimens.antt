@@ -1,5 +1,6 @@
 -- M1 to M12, computed.
 use mathlib.Core.Path.{refl}
+use Rattle.suffix.specs.Ranks.{rank}
 use Rattle.suffix.specs.Search.{anyBelow, allBelow, countBelow, greatestBelow, leastFrom, sumBelow, maximumBelow, tabulate, tabulateFrom}
 use Rattle.suffix.specs.Order.{lexLess, lcp, suffixLess, lce}
 use Rattle.suffix.specs.Nearest.{previous, next, previousMatch, nextMatch}
@@ -14,5 +15,5 @@ use Rattle.word.specs.Word.{wordPart, wordStart}
 use Rattle.specimens.specs.Specimens.{SpecimensHold}
 
 pub specimensHold : SpecimensHold
-unfolding anyBelow allBelow countBelow greatestBelow leastFrom sumBelow maximumBelow tabulate tabulateFrom lexLess lcp suffixLess lce previous next previousMatch nextMatch previousAfter previousMatchAfter nextSettled nextAfter nextMatchAfter tablesAfter isPair pairReach reach hanging forestAfter parentheses byteOf treeAfter treeBytes isLyndon part longestLyndon lowest lowestFrom byteBit bitOf spareBitSet closedTooEarly leftOpen buildRefusal readRefusal wordRefusal scan scanFrom reuse settle recordPrevious recordNext climb advance advances stateOf rowStart row start afterRows lentAfter refusalOf answer lentAtExit wordPart wordStart
+unfolding rank anyBelow allBelow countBelow greatestBelow leastFrom sumBelow maximumBelow tabulate tabulateFrom lexLess lcp suffixLess lce previous next previousMatch nextMatch previousAfter previousMatchAfter nextSettled nextAfter nextMatchAfter tablesAfter isPair pairReach reach hanging forestAfter parentheses byteOf treeAfter treeBytes isLyndon part longestLyndon lowest lowestFrom byteBit bitOf spareBitSet closedTooEarly leftOpen buildRefusal readRefusal wordRefusal scan scanFrom reuse settle recordPrevious recordNext climb advance advances stateOf rowStart row start afterRows lentAfter refusalOf answer lentAtExit wordPart wordStart
 specimensHold = refl

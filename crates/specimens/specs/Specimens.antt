@@ -85,6 +85,13 @@ aaaa = 97 ∷ 97 ∷ 97 ∷ 97 ∷ []
 abbrev pub banana : List ℕ
 banana = 98 ∷ 97 ∷ 110 ∷ 97 ∷ 110 ∷ 97 ∷ []
 
+-- the letters of BanAnA, and of a_
+abbrev pub banAnA : List ℕ
+banAnA = 66 ∷ 97 ∷ 110 ∷ 65 ∷ 110 ∷ 65 ∷ []
+
+abbrev pub underscore : List ℕ
+underscore = 97 ∷ 95 ∷ []
+
 -- of M1 to M8 the answer has the comparisons as T-02 splits them, equal and unequal, and count their sum, which document 01 gives
 abbrev pub table : List Specimen
 table =
@@ -150,6 +157,19 @@ table =
     ∷ is (word-refusal banana 6) (number 5)
     ∷ is (word banana 6) (entries [])
     ∷ is (word-start banana 6) (number 0)
+    -- T-04: "bytes 97 to 122 compare as 65 to 90": as M7, M8 and M12, but that the word is the caller's own bytes
+    ∷ is (previous banAnA 6) (entries (6 ∷ 6 ∷ 1 ∷ 6 ∷ 3 ∷ 6 ∷ []))
+    ∷ is (next banAnA 6) (entries (1 ∷ 3 ∷ 3 ∷ 5 ∷ 5 ∷ 6 ∷ []))
+    ∷ is (next-match banAnA 6) (entries (0 ∷ 3 ∷ 0 ∷ 1 ∷ 0 ∷ 0 ∷ []))
+    ∷ is (lengths banAnA) (entries (1 ∷ 2 ∷ 1 ∷ 2 ∷ 1 ∷ 1 ∷ []))
+    ∷ is (answers banAnA 6) (figures (finished 6 3 3 6))
+    ∷ is (tree banAnA 6) (entries (0xCD ∷ 0x04 ∷ []))
+    ∷ is (answers banAnA 4) (figures (halted 4 3 3 6))
+    ∷ is (tree banAnA 4) (entries (0x4D ∷ 0x00 ∷ []))
+    ∷ is (word banAnA 1) (entries (97 ∷ 110 ∷ []))
+    ∷ is (word banAnA 3) (entries (65 ∷ 110 ∷ []))
+    -- a ranks as A, below _: so no letter of `a_` is smaller than its first
+    ∷ is (lengths underscore) (entries (2 ∷ 1 ∷ []))
     ∷ []
 
 abbrev pub allGiven : List Specimen → List Reply

@@ -2,6 +2,7 @@ pub mod Examples
 pub mod Cases
 pub mod Search
 pub mod Ranks
+pub mod Masking
 pub mod Sequence
 pub mod Edges
 pub mod Order

@@ -1,11 +1,40 @@
 -- Ranks in their order, and in the reverse one.
 use mathlib.Core.Path.{_≡_, refl}
+use mathlib.Core.Logic.{_⊎_, inl, inr}
 use mathlib.Core.Bool.{Bool, true, false}
 use mathlib.Core.List.{List, [], _∷_}
-use Prim.Native.Nat.{ℕ, zero, suc, _-_, _≤_, _<_}
+use Prim.Native.Nat.{ℕ, zero, suc, _+_, _-_, _≤_, _<_}
 use native.Mathlib.Omega.{arith}
 use lib.ListN.{length, getD, drop, length-map}
+use borrow.Author.Tests.{le-leb, lt-leb}
 use Rattle.suffix.specs.Ranks.{rank, ranks, greatestRank, orientedFrom}
+use Rattle.suffix.specs.Claims.{NotSmall}
+use Rattle.suffix.proofs.Cases.{Tri, lt, eq, gt, tri}
+
+-- what the rank of a letter is, by its value
+pub data Ranked (letter : ℕ) : Type 0 where
+  small : 97 ≤ letter → letter ≤ 122 → rank letter ≡ letter - 32 → Ranked letter
+  other : NotSmall letter → rank letter ≡ letter → Ranked letter
+
+pub ranked : (letter : ℕ) → Ranked letter
+unfolding rank
+ranked letter = go (tri letter 97) (tri letter 122)
+  where
+    below : letter < 97 → Ranked letter
+    below h = other (inl h) (rw (lt-leb 97 letter h, rank))
+
+    above : 122 < letter → Ranked letter
+    above h = let g : 97 ≤ letter = omega arith in other (inr h) (rw (le-leb 97 letter g, lt-leb letter 122 h, rank))
+
+    between : 97 ≤ letter → letter ≤ 122 → Ranked letter
+    between h g = let p : 65 + (letter - 97) ≡ letter - 32 = omega arith in small h g (rw (le-leb 97 letter h, le-leb letter 122 g, rank) p)
+
+    go : Tri letter 97 → Tri letter 122 → Ranked letter
+    go (lt h) b = below h
+    go (eq h) b = between (omega arith) (omega arith)
+    go (gt h) (lt g) = between (omega arith) (omega arith)
+    go (gt h) (eq g) = between (omega arith) (omega arith)
+    go (gt h) (gt g) = above g
 
 pub ranks-length : (letters : List ℕ) → length (ranks letters) ≡ length letters
 ranks-length letters = length-map letters rank
@@ -17,7 +46,11 @@ ranks-entry (x ∷ letters) (suc i) h = ranks-entry letters i (omega arith)
 
 -- the rank of a byte is a byte
 pub rank-byte : (letter : ℕ) → letter < 256 → rank letter < 256
-rank-byte letter h = h
+rank-byte letter h = go (ranked letter)
+  where
+    go : Ranked letter → rank letter < 256
+    go (small a b p) = omega arith
+    go (other a p) = omega arith
 
 pub ranks-most : (letters : List ℕ) → ((i : ℕ) → i < length letters → getD letters i 0 < 256) → (i : ℕ) → i < length (ranks letters) → getD (ranks letters) i 0 ≤ greatestRank
 ranks-most letters bytes i h =

@@ -1,14 +1,15 @@
--- Document 01, "What the house files, and what it doesn't": "Letters compare by their byte value, unsigned."
-use mathlib.Core.Bool.{Bool, true, false}
+-- Document 01, "What the house files, and what it doesn't": "Letters compare by their byte value, unsigned.", as document 02, T-04, amends it.
+use mathlib.Core.Bool.{Bool, true, false, _&&_}
 use mathlib.Core.List.{List, map}
-use Prim.Native.Nat.{ℕ, _-_}
+use Prim.Native.Nat.{ℕ, _+_, _-_}
+use lib.Dec.{leb}
 
--- the number by which a letter compares: its value
-abbrev pub rank : ℕ → ℕ
-rank letter = letter
+-- the number by which a letter compares: "bytes 97 to 122 compare as 65 to 90; all other bytes keep their value."
+unfoldable pub rank : ℕ → ℕ
+rank letter = elim (leb 97 letter && leb letter 122) [ true ↦ 65 + (letter - 97) | false ↦ letter ]
 
 -- The ranks of letters. Every definition is over such a list, never over bytes, so that it serves letters of one byte, masked letters and
--- 32-bit symbols alike: y is the ranks of the letters, n is length y.
+-- 32-bit symbols alike: y is the ranks of the letters, n is length y. Read as bytes, the ranks are the same letters in capitals.
 abbrev pub ranks : List ℕ → List ℕ
 ranks letters = map rank letters
 

@@ -1,6 +1,7 @@
 -- The text of document 01 for the six bytes banana, by computation.
 use mathlib.Core.Path.{_≡_, refl}
 use mathlib.Core.List.{[], _∷_}
+use Rattle.suffix.specs.Ranks.{rank}
 use Rattle.suffix.specs.Search.{greatestBelow, leastFrom, sumBelow, tabulate, tabulateFrom}
 use Rattle.suffix.specs.Order.{lexLess, suffixLess}
 use Rattle.suffix.specs.Nearest.{previous, next}
@@ -19,7 +20,7 @@ banana :
     ∷ 51 ∷ 32 ∷ 45 ∷ 32 ∷ 53 ∷ 32 ∷ 50 ∷ 10
     ∷ 52 ∷ 32 ∷ 51 ∷ 32 ∷ 53 ∷ 32 ∷ 49 ∷ 10
     ∷ 53 ∷ 32 ∷ 45 ∷ 32 ∷ 54 ∷ 32 ∷ 49 ∷ 10 ∷ []
-unfolding greatestBelow leastFrom sumBelow tabulate tabulateFrom lexLess suffixLess previous next hanging forestAfter parentheses byteOf treeAfter treeBytes scan scanFrom reuse settle recordPrevious recordNext climb advance advances stateOf rowStart row start afterRows places decimal hexes treeText field orDash lineText figure headText lines tablesText programText
+unfolding rank greatestBelow leastFrom sumBelow tabulate tabulateFrom lexLess suffixLess previous next hanging forestAfter parentheses byteOf treeAfter treeBytes scan scanFrom reuse settle recordPrevious recordNext climb advance advances stateOf rowStart row start afterRows places decimal hexes treeText field orDash lineText figure headText lines tablesText programText
 banana = refl
 
 -- the text for no letters
