@@ -5,8 +5,8 @@ use mathlib.Core.List.{List}
 use Prim.Native.Nat.{ℕ, _-_, _<_}
 use native.Mathlib.Omega.{arith}
 use lib.ListN.{length, getD}
-use Rattle.suffix.specs.Ranks.{rank, ranks, greatestRank}
-use Rattle.suffix.proofs.Ranks.{ranks-length, ranks-entry, oriented-length, reversed-entry}
+use Rattle.suffix.specs.Ranks.{ranks, greatestRank}
+use Rattle.suffix.proofs.Ranks.{ranks-length, ranks-same, oriented-length, reversed-entry}
 use Rattle.refusal.specs.Conditions.{buildRefusal, tablesRefusal}
 use Rattle.suffix.specs.Rows.{Tables}
 use Rattle.build.specs.States.{stringOf}
@@ -33,14 +33,9 @@ tables-refusal-is reverse letters t =
 -- equal letters have equal ranks
 pub string-same : (reverse : Bool) (letters : List ℕ) (i j : ℕ) → i < length letters → j < length letters → getD letters i 0 ≡ getD letters j 0
     → getD (stringOf reverse letters) i 0 ≡ getD (stringOf reverse letters) j 0
-string-same reverse letters i j h g e = go reverse
-  where
-    ranks-same : getD (ranks letters) i 0 ≡ getD (ranks letters) j 0
-    ranks-same = ranks-entry letters i h ∙ ap rank e ∙ sym (ranks-entry letters j g)
-
-    go : (reverse : Bool) → getD (stringOf reverse letters) i 0 ≡ getD (stringOf reverse letters) j 0
-    go false = ranks-same
-    go true =
-        let a : i < length (ranks letters) = omega (arith, ranks-length letters) in
-        let b : j < length (ranks letters) = omega (arith, ranks-length letters) in
-        reversed-entry greatestRank (ranks letters) i a ∙ ap (λ x. greatestRank - x) ranks-same ∙ sym (reversed-entry greatestRank (ranks letters) j b)
+string-same false letters i j h g e = ranks-same letters i j h g e
+string-same true letters i j h g e =
+    let y = ranks letters in
+    let a : i < length y = omega (arith, ranks-length letters) in
+    let b : j < length y = omega (arith, ranks-length letters) in
+    reversed-entry greatestRank y i a ∙ ap (λ x. greatestRank - x) (ranks-same letters i j h g e) ∙ sym (reversed-entry greatestRank y j b)

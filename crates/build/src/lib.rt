@@ -71,7 +71,7 @@ fn rank_at(letters: &[u8], reverse: bool, i: usize) -> u32
     requires { ⌜ i < length (now letters) ⌝ }
     ensures { λ r. ⌜ r ≡ getD (stringOf reverse (now (letters .entry))) i 0 ⌝ }
 {
-    let rank = suffix::rank(letters[i]) as u32;
+    let rank = suffix::rank(letters[i]);
     if reverse {
         return 4294967295 - rank;
     }

@@ -37,10 +37,15 @@ fn left_of(letters: &[u8], i: usize, j: usize) -> usize
     let most = most_left(i, j);
     let mut x = 0;
     while x < most {
-        let a = suffix::rank(letters[i - 1 - x]);
-        let b = suffix::rank(letters[j - 1 - x]);
+        let a = letters[i - 1 - x];
+        let b = letters[j - 1 - x];
+        // equal letters have equal ranks
         if a != b {
-            return x;
+            let c = suffix::rank(a);
+            let d = suffix::rank(b);
+            if c != d {
+                return x;
+            }
         }
         x += 1;
     }

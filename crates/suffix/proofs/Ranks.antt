@@ -1,5 +1,5 @@
 -- Ranks in their order, and in the reverse one.
-use mathlib.Core.Path.{_≡_, refl}
+use mathlib.Core.Path.{_≡_, refl, sym, ap, _∙_}
 use mathlib.Core.Logic.{_⊎_, inl, inr}
 use mathlib.Core.Bool.{Bool, true, false}
 use mathlib.Core.List.{List, [], _∷_}
@@ -43,6 +43,11 @@ pub ranks-entry : (letters : List ℕ) (i : ℕ) → i < length letters → getD
 ranks-entry [] i h = absurd (omega arith)
 ranks-entry (x ∷ letters) zero h = refl
 ranks-entry (x ∷ letters) (suc i) h = ranks-entry letters i (omega arith)
+
+-- equal letters have equal ranks
+pub ranks-same : (letters : List ℕ) (i j : ℕ) → i < length letters → j < length letters → getD letters i 0 ≡ getD letters j 0
+    → getD (ranks letters) i 0 ≡ getD (ranks letters) j 0
+ranks-same letters i j h g e = ranks-entry letters i h ∙ ap rank e ∙ sym (ranks-entry letters j g)
 
 -- the rank of a byte is a byte
 pub rank-byte : (letter : ℕ) → letter < 256 → rank letter < 256

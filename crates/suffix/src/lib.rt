@@ -3,13 +3,14 @@ ghost use mathlib.Core.Path.{_≡_};
 ghost use Rattle.suffix.specs.Ranks.{rank};
 
 // The number by which a letter compares: small letters compare as capitals.
-pub fn rank(letter: u8) -> u8
+pub fn rank(letter: u8) -> u32
     ensures { λ r. ⌜ r ≡ rank letter ⌝ }
 {
-    if 97 <= letter {
-        if letter <= 122 {
-            return letter - 32;
+    let value = letter as u32;
+    if 97 <= value {
+        if value <= 122 {
+            return value - 32;
         }
     }
-    letter
+    value
 }

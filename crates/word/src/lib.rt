@@ -18,15 +18,22 @@ fn longest_lyndon_prefix(s: &[u8]) -> usize
     let mut k = 0;
     let mut j = 1;
     while j < n {
-        let a = suffix::rank(s[k]);
-        let b = suffix::rank(s[j]);
-        if b < a {
-            return j - k;
-        }
-        if a < b {
-            k = 0;
-        } else {
+        let x = s[k];
+        let y = s[j];
+        // equal letters have equal ranks
+        if x == y {
             k += 1;
+        } else {
+            let a = suffix::rank(x);
+            let b = suffix::rank(y);
+            if b < a {
+                return j - k;
+            }
+            if a < b {
+                k = 0;
+            } else {
+                k += 1;
+            }
         }
         j += 1;
     }

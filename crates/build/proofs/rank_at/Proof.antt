@@ -27,8 +27,7 @@ rank-at-spec =
     tie.close
     (tie.spec
     (λ c. omega arith)
-    (λ c κs. omega (arith, c .before .shared-slice-known .given (c .before .before .args .i)))
-    (λ c. omega (arith, c .before .before .shared-slice-known .given (c .before .before .before .args .i)))
-    (λ c. omega (arith, c .before .before .before .shared-slice-known .given (c .before .before .before .before .args .i)))
+    (λ c κs. tt)
+    (λ c. omega arith)
     returns
     returns-2)

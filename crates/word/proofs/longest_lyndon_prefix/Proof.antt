@@ -5,8 +5,8 @@ use mathlib.Core.List.{List}
 use Prim.Native.Nat.{ℕ, _-_, _≤_, _<_}
 use native.Mathlib.Omega.{arith}
 use lib.ListN.{length, getD}
-use Rattle.suffix.specs.Ranks.{ranks}
-use Rattle.suffix.proofs.Ranks.{ranks-length, ranks-entry}
+use Rattle.suffix.specs.Ranks.{rank, ranks}
+use Rattle.suffix.proofs.Ranks.{ranks-length, ranks-entry, ranks-same}
 use Rattle.suffix.proofs.Order.{extended}
 use Rattle.word.proofs.Duval.{Repeats, repeats-one, letter-equal, letter-greater, letter-smaller, string-ends}
 use Rattle.word.proofs.longest_lyndon_prefix.Statement.{statement}
@@ -21,22 +21,10 @@ abbrev μ-loop : tie.MeasureT-loop
 loop-holds : tie.Need-loop-holds Inv-loop μ-loop
 loop-holds c = (omega arith, repeats-one (extended (ranks (c .before .args .s .now))))
 
-shared-slice-read-rank : tie.Need-shared-slice-read-rank Inv-loop μ-loop
-shared-slice-read-rank c = omega arith
-
-rank-requires : tie.Need-rank-requires Inv-loop μ-loop
-rank-requires c κs = tt
-
-shared-slice-read-rank-2 : tie.Need-shared-slice-read-rank-2 Inv-loop μ-loop
-shared-slice-read-rank-2 c = omega arith
-
-rank-requires-2 : tie.Need-rank-requires-2 Inv-loop μ-loop
-rank-requires-2 c κs = tt
-
--- the ranks of the letters at k and at j
-module _ (d : tie.After-rank2 Inv-loop μ-loop) where
+-- both letters are read
+module _ (d : tie.After-shared-slice-known3 Inv-loop μ-loop) where
   abbrev l : tie.At-loop Inv-loop μ-loop
-  l = d .before .before .before .before .before
+  l = d .before .before .before
 
   abbrev s : List ℕ
   s = l .before .before .args .s .now
@@ -44,41 +32,32 @@ module _ (d : tie.After-rank2 Inv-loop μ-loop) where
   more : l .loop .j < length (ranks s)
   more = omega (arith, ranks-length s)
 
-  at-k : d .before .before .rank .result ≡ getD (ranks s) (l .loop .k) 0
-  at-k = d .before .before .rank .ensures ∙ sym (ranks-entry s (l .loop .k) (omega arith))
+  -- their ranks
+  at-k : {r : ℕ} → r ≡ rank (getD s (l .loop .k) 0) → r ≡ getD (ranks s) (l .loop .k) 0
+  at-k p = p ∙ sym (ranks-entry s (l .loop .k) (omega arith))
 
-  at-j : d .rank2 .result ≡ getD (ranks s) (l .loop .j) 0
-  at-j = d .rank2 .ensures ∙ sym (ranks-entry s (l .loop .j) (omega arith))
+  at-j : {r : ℕ} → r ≡ rank (getD s (l .loop .j) 0) → r ≡ getD (ranks s) (l .loop .j) 0
+  at-j p = p ∙ sym (ranks-entry s (l .loop .j) (omega arith))
 
-sub-result : tie.Need-sub-result Inv-loop μ-loop
-sub-result c = omega arith
+  same : getD s (l .loop .k) 0 ≡ getD s (l .loop .j) 0 → getD (ranks s) (l .loop .k) 0 ≡ getD (ranks s) (l .loop .j) 0
+  same e = ranks-same s (l .loop .k) (l .loop .j) (omega arith) (omega arith) e
 
 returns : tie.Need-returns Inv-loop μ-loop
-returns c = let d = c .before in letter-smaller (ranks (s d)) (l d .loop .inv .1) (more d) (omega (arith, at-k d, at-j d))
-
-add-k : tie.Need-add-k Inv-loop μ-loop
-add-k c = omega arith
-
-add-j : tie.Need-add-j Inv-loop μ-loop
-add-j c = omega arith
-
-loop-less : tie.Need-loop-less Inv-loop μ-loop
-loop-less c = omega arith
+returns c =
+    let d = c .before .before .before .before in
+    letter-smaller (ranks (s d)) (l d .loop .inv .1) (more d) (omega (arith, at-k d (c .before .before .rank .ensures), at-j d (c .before .rank2 .ensures)))
 
 loop-again : tie.Need-loop-again Inv-loop μ-loop
 loop-again c =
-    let d = c .before .before in
+    let d = c .before in
     let y = ranks (s d) in
     let r = l d .loop .inv .1 in (
       omega arith,
-      ⊎-elim
-          (λ w. rw (w .1) (letter-greater y r (more d) (omega (arith, at-k d, at-j d))))
-          (λ w. rw (w .1) (letter-equal y r (more d) (omega (arith, at-k d, at-j d))))
-          (c .if2 .came),
+      ⊎-elim (λ w. rw (w .1) (letter-equal y r (more d) (omega (arith, same d (w .0 .taken)))))
+          (⊎-elim (λ w. rw (w .5) (letter-greater y r (more d) (omega (arith, at-k d (w .1 .ensures), at-j d (w .2 .ensures)))))
+          (λ w. rw (w .5) (letter-equal y r (more d) (omega (arith, at-k d (w .1 .ensures), at-j d (w .2 .ensures))))))
+          (c .if1 .came),
     )
-
-sub-result-2 : tie.Need-sub-result-2 Inv-loop μ-loop
-sub-result-2 c = omega arith
 
 returns-2 : tie.Need-returns-2 Inv-loop μ-loop
 returns-2 c =
@@ -92,15 +71,16 @@ longest-lyndon-prefix-spec =
     Inv-loop
     μ-loop
     loop-holds
-    shared-slice-read-rank
-    rank-requires
-    shared-slice-read-rank-2
-    rank-requires-2
-    sub-result
+    (λ c. omega arith)
+    (λ c. omega arith)
+    (λ c. omega arith)
+    (λ c κs. tt)
+    (λ c κs. tt)
+    (λ c. omega arith)
     returns
-    add-k
-    add-j
-    loop-less
+    (λ c. omega arith)
+    (λ c. omega arith)
+    (λ c. omega arith)
     loop-again
-    sub-result-2
+    (λ c. omega arith)
     returns-2)

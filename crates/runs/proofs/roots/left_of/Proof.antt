@@ -1,9 +1,12 @@
 -- `runs::roots::left_of` meets its contract.
 use mathlib.Core.Path.{_≡_, sym, _∙_}
-use Prim.Native.Nat.{_-_}
+use mathlib.Core.Logic.{⊎-elim}
+use mathlib.Core.List.{List}
+use Prim.Native.Nat.{ℕ, _-_}
 use native.Mathlib.Omega.{arith}
-use Rattle.suffix.specs.Ranks.{ranks}
-use Rattle.suffix.proofs.Ranks.{ranks-entry}
+use lib.ListN.{getD}
+use Rattle.suffix.specs.Ranks.{rank, ranks}
+use Rattle.suffix.proofs.Ranks.{ranks-entry, ranks-same}
 use Rattle.repeats.proofs.Meaning.{letter}
 use Rattle.runs.proofs.Scanning.{Agreeing, agree-none, agree-more, at-most, at-difference}
 use Rattle.runs.proofs.roots.left_of.Statement.{statement}
@@ -15,25 +18,43 @@ Inv-loop letters i j most x₀ x = Agreeing (ranks letters) i j x
 abbrev μ-loop : tie.MeasureT-loop
 μ-loop letters i j most x₀ x = most - x
 
--- both letters are ranked
-module _ (d : tie.After-rank2 Inv-loop μ-loop) where
+-- both letters are read
+module _ (d : tie.After-shared-slice-known3 Inv-loop μ-loop) where
   abbrev head : tie.At-loop Inv-loop μ-loop
-  head = d .before .before .before .before .before
+  head = d .before .before .before
 
   abbrev start : tie.Start Inv-loop μ-loop
   start = head .before .before .before
 
-  left : d .before .before .rank .result ≡ letter (ranks (start .args .letters .now)) (start .args .i - 1 - head .loop .x)
-  left = d .before .before .rank .ensures ∙ sym (ranks-entry (start .args .letters .now) (start .args .i - 1 - head .loop .x) (omega arith))
+  abbrev letters : List ℕ
+  letters = start .args .letters .now
 
-  right : d .rank2 .result ≡ letter (ranks (start .args .letters .now)) (start .args .j - 1 - head .loop .x)
-  right = d .rank2 .ensures ∙ sym (ranks-entry (start .args .letters .now) (start .args .j - 1 - head .loop .x) (omega arith))
+  -- their places, and their ranks
+  abbrev left : ℕ
+  left = start .args .i - 1 - head .loop .x
+
+  abbrev right : ℕ
+  right = start .args .j - 1 - head .loop .x
+
+  at-left : {r : ℕ} → r ≡ rank (getD letters left 0) → r ≡ letter (ranks letters) left
+  at-left p = p ∙ sym (ranks-entry letters left (omega arith))
+
+  at-right : {r : ℕ} → r ≡ rank (getD letters right 0) → r ≡ letter (ranks letters) right
+  at-right p = p ∙ sym (ranks-entry letters right (omega arith))
 
 returns : tie.Need-returns Inv-loop μ-loop
-returns c = let d = c .before in at-difference _ _ _ _ (head d .loop .inv) (omega arith) (λ q. c .if1 .taken (left d ∙ q ∙ sym (right d)))
+returns c =
+    let d = c .before .before .before .before in
+    at-difference _ _ _ _ (head d .loop .inv) (omega arith)
+    (λ q. c .if2 .taken (at-left d (c .before .before .rank .ensures) ∙ q ∙ sym (at-right d (c .before .rank2 .ensures))))
 
 loop-again : tie.Need-loop-again Inv-loop μ-loop
-loop-again c = let d = c .before in agree-more _ _ _ _ (head d .loop .inv) (omega arith) (omega arith) (sym (left d) ∙ c .if1 .left ∙ right d)
+loop-again c =
+    let d = c .before in
+    agree-more _ _ _ _ (head d .loop .inv) (omega arith) (omega arith)
+    (⊎-elim (λ w. sym (at-left d (w .1 .ensures)) ∙ w .3 .left ∙ at-right d (w .2 .ensures))
+    (λ w. ranks-same (letters d) (left d) (right d) (omega arith) (omega arith) (w .left))
+    (c .if1 .came))
 
 returns-2 : tie.Need-returns-2 Inv-loop μ-loop
 returns-2 c = at-most _ _ _ _ (c .before .loop .inv) (omega arith) (c .before .before .most-left .ensures) (omega arith)
@@ -49,10 +70,10 @@ left-of-spec =
     (λ c. omega arith)
     (λ c. omega arith)
     (λ c. omega arith)
+    (λ c. omega arith)
+    (λ c. omega arith)
+    (λ c. omega arith)
     (λ c κs. tt)
-    (λ c. omega arith)
-    (λ c. omega arith)
-    (λ c. omega arith)
     (λ c κs. tt)
     returns
     (λ c. omega arith)
