@@ -5,18 +5,21 @@ use Prim.Native.Nat.{ℕ, _≤_}
 use native.Mathlib.Nat.{le-trans, lt-of-lt-of-le}
 use lib.ListN.{length, getD}
 use borrow.Author.Tests.{eq-eqb}
+use Rattle.suffix.specs.Ranks.{ranks}
 use Rattle.suffix.specs.Search.{tabulate}
 use Rattle.suffix.specs.Rows.{previousAfter, nextAfter, tablesAfter}
 use Rattle.suffix.proofs.Search.{tabulate-entry, tabulate-same}
-use Rattle.suffix.proofs.Laws.{allRowsGiveAllEntries}
+use Rattle.suffix.proofs.Laws.{allRowsGiveAllEntries, sameLettersSameRanks}
 use Rattle.refusal.specs.Numbers.{lowest, lowestFrom}
 use Rattle.refusal.specs.Conditions.{readRefusal, treeRefusal}
-use Rattle.build.specs.Built.{Lent, lentAfter, refusalOf, lentAtExit}
+use Rattle.build.specs.Built.{Lent, lentAfter, refusalOf, answer, lentAtExit}
 use Rattle.build.proofs.Answers.{Accepted, accepted}
 use Rattle.shape.specs.Claims.{ReadsAs, forNone}
 use Rattle.brackets.specs.Answers as brackets
 use Rattle.shape.proofs.Laws.{finishedTree, haltedTree, haltedTreeIsRefused}
-use Rattle.lyndon.specs.Claims.{Fits, Reads, BuiltThenRead, HaltedThenRefused, HaltedThenRead}
+use Rattle.word.proofs.Laws.{same-words}
+use Rattle.repeats.specs.Answers as repeats
+use Rattle.lyndon.specs.Claims.{Fits, Reads, BuiltThenRead, HaltedThenRefused, HaltedThenRead, MaskingChangesNoAnswer}
 
 -- what a build that is not refused was lent, and leaves
 was-lent : (y : List ℕ) (R : ℕ) (before : Lent) → refusalOf y R before ≡ 0 → Accepted (length y) R before
@@ -62,3 +65,15 @@ haltedThenRead y R before after tables e z F =
 
     seen : (f : ℕ → ℕ) → R ≤ n → tabulate R (λ i. forNone n R (getD (tabulate n f) i 0)) ≡ tabulate R (λ i. forNone n R (f i))
     seen f h = tabulate-same (λ i. forNone n R (getD (tabulate n f) i 0)) (λ i. forNone n R (f i)) R (λ i k. ap (forNone n R) (tabulate-entry f n i (lt-of-lt-of-le k h)))
+
+pub maskingChangesNoAnswer : MaskingChangesNoAnswer
+maskingChangesNoAnswer letters others S =
+    let e : ranks letters ≡ ranks others = sameLettersSameRanks letters others .0 S in
+    record {
+      build = λ R before. ap (λ y. answer y R before) e;
+      build-leaves = λ R before. ap (λ y. lentAtExit y R before) e;
+      word = λ i. let w = same-words letters others i S in rw (w .0, w .1, w .2);
+      runs = λ work lists. ap (λ y. repeats.answer y work lists) e;
+      runs-lists = λ work lists. ap (λ y. repeats.listsAfter y work lists) e;
+      runs-work = λ work lists. ap (λ y. repeats.workAfter y work lists) e;
+    }

@@ -1,13 +1,18 @@
--- What a build leaves is what a reader reads, by the definitions of the two operations. Each claim is a type; the law of its name, with a
--- small letter first, proves it in proofs/Laws.antt.
+-- What a build leaves is what a reader reads, and masking changes no answer, by the definitions of the operations. Each claim is a type; the
+-- law of its name, with a small letter first, proves it in proofs/Laws.antt.
 use mathlib.Core.Path.{_≡_}
 use mathlib.Core.List.{List}
 use Prim.Native.Nat.{ℕ, _<_}
 use lib.ListN.{length, getD}
+use Rattle.suffix.specs.Ranks.{ranks}
 use Rattle.suffix.specs.Search.{tabulate}
-use Rattle.build.specs.Built.{Lent, refusalOf, lentAtExit}
+use Rattle.suffix.specs.Claims.{SameLetters}
+use Rattle.build.specs.Built.{Lent, refusalOf, answer, lentAtExit}
 use Rattle.shape.specs.Claims.{firstBytes, forNone}
 use Rattle.brackets.specs.Answers as brackets
+use Rattle.repeats.specs.Refusals.{Lists}
+use Rattle.repeats.specs.Answers as repeats
+use Rattle.lyndon.specs.Replies.{wordReply}
 
 -- two tables of n entries are lent to a reader
 pub record Fits (n : ℕ) (tables : brackets.Lent) : Type 0 where
@@ -38,3 +43,18 @@ HaltedThenRead =
     refusalOf y R before ≡ 0 → after ≡ lentAtExit y R before → Fits R tables
     → Reads R (firstBytes R (after .tree)) tables (tabulate R (λ i. forNone n R (getD (after .tables .previous) i 0)))
     (tabulate R (λ i. forNone n R (getD (after .tables .next) i 0)))
+
+-- ---- T-04: "the trade counts a masked base as the same base"
+
+-- a build, the longest-word question and the report of all runs answer the same of both, and leave the same in the same memory
+pub record AnsweredAlike (letters others : List ℕ) : Type 0 where
+  pub build : (R : ℕ) (before : Lent) → answer (ranks letters) R before ≡ answer (ranks others) R before
+  pub build-leaves : (R : ℕ) (before : Lent) → lentAtExit (ranks letters) R before ≡ lentAtExit (ranks others) R before
+  pub word : (i : ℕ) → wordReply letters i ≡ wordReply others i
+  pub runs : (work : List (List ℕ)) (lists : Lists) → repeats.answer (ranks letters) work lists ≡ repeats.answer (ranks others) work lists
+  pub runs-lists : (work : List (List ℕ)) (lists : Lists) → repeats.listsAfter (ranks letters) work lists ≡ repeats.listsAfter (ranks others) work lists
+  pub runs-work : (work : List (List ℕ)) (lists : Lists) → repeats.workAfter (ranks letters) work lists ≡ repeats.workAfter (ranks others) work lists
+
+-- so it is of letters that differ in masking alone, as a string and the same in capitals
+abbrev pub MaskingChangesNoAnswer : Type 0
+MaskingChangesNoAnswer = (letters others : List ℕ) → SameLetters letters others → AnsweredAlike letters others

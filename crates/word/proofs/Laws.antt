@@ -1,5 +1,5 @@
--- The longest-word question, refused and not; and the law that proves specs/Claims.antt.
-use mathlib.Core.Path.{_≡_, refl, ap, _∙_}
+-- The longest-word question, refused and not, and of masked letters; and the law that proves specs/Claims.antt.
+use mathlib.Core.Path.{_≡_, refl, sym, ap, _∙_}
 use mathlib.Core.Logic.{_≢_}
 use mathlib.Core.Bool.{Bool, true, false}
 use mathlib.Core.List.{List, [], _∷_}
@@ -11,6 +11,9 @@ use borrow.Rule.Slice.PartAt.{part-to-end}
 use Rattle.suffix.specs.Ranks.{ranks}
 use Rattle.suffix.specs.Nearest.{next}
 use Rattle.suffix.specs.Lyndon.{part, longestLyndon}
+use Rattle.suffix.specs.Claims.{SameLetters}
+use Rattle.suffix.proofs.Cases.{Same, same, other, same?}
+use Rattle.suffix.proofs.Laws.{sameLettersSameRanks}
 use Rattle.suffix.proofs.Ranks.{ranks-length, ranks-drop}
 use Rattle.suffix.proofs.Nearest.{next-le}
 use Rattle.suffix.proofs.Lyndon.{part-length, longest-next}
@@ -85,3 +88,20 @@ wordIsLongest letters i e =
     let h : i < length letters = inside (length letters) i e in
     let z : length (wordPart letters i) ≡ longestLyndon (ranks letters) i = ap length (part-taken letters i e) ∙ part-length letters i (longestLyndon (ranks letters) i) (longest-fits letters i h) in
     (omega (arith, z, longest-is letters i h), z)
+
+-- of two strings that differ in masking alone: the refusal, where the part starts, and its length
+pub same-words : (letters others : List ℕ) (i : ℕ) → SameLetters letters others
+    → (wordRefusal (length letters) i ≡ wordRefusal (length others) i) × (wordStart letters i ≡ wordStart others i) × (length (wordPart letters i) ≡ length (wordPart others i))
+same-words letters others i S = let g = go (same? (wordRefusal (length letters) i) 0) in (number, g .0, g .1)
+  where
+    number : wordRefusal (length letters) i ≡ wordRefusal (length others) i
+    number = ap (λ n. wordRefusal n i) (S .lengths)
+
+    go : Same (wordRefusal (length letters) i) 0 → (wordStart letters i ≡ wordStart others i) × (length (wordPart letters i) ≡ length (wordPart others i))
+    go (same e) =
+        let z : wordRefusal (length others) i ≡ 0 = sym number ∙ e in
+        let longest = ap (λ y. longestLyndon y i) (sameLettersSameRanks letters others .0 S) in
+        (start-taken letters i e ∙ sym (start-taken others i z), wordIsLongest letters i e .1 ∙ longest ∙ sym (wordIsLongest others i z .1))
+    go (other h) =
+        let z : wordRefusal (length others) i ≢ 0 = (λ q. h (number ∙ q)) in
+        (start-refused letters i h ∙ sym (start-refused others i z), ap length (part-refused letters i h ∙ sym (part-refused others i z)))

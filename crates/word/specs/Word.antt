@@ -10,8 +10,8 @@ use Rattle.suffix.specs.Ranks.{ranks}
 use Rattle.suffix.specs.Lyndon.{part, longestLyndon}
 use Rattle.refusal.specs.Conditions.{wordRefusal}
 
--- "The longest-word question takes a string and a position and returns that part of the caller's string itself"; refused, it "returns the
--- empty part"
+-- "The longest-word question takes a string and a position and returns that part of the caller's string itself": its letters as they stand,
+-- of which the ranks tell the number alone; refused, it "returns the empty part"
 unfoldable pub wordPart : List ℕ → ℕ → List ℕ
 wordPart letters i = elim (eqb (wordRefusal (length letters) i) 0) [ true ↦ part letters i (longestLyndon (ranks letters) i) | false ↦ [] ]
 
