@@ -6,7 +6,7 @@ use Prim.Native.Nat.{ℕ, zero, suc, _+_, _-_, _≤_, _<_}
 use native.Mathlib.Omega.{arith}
 use lib.ListN.{length, getD}
 use Rattle.suffix.specs.Ranks.{rank, ranks}
-use Rattle.suffix.specs.Claims.{NotSmall, Unmasked, Masks, SameLetter, SameLetters, InCapitals}
+use Rattle.suffix.specs.Claims.{SmallRankAsCapitals, NotSmall, Unmasked, Masks, SameLetter, SameLetters, InCapitals}
 use Rattle.suffix.proofs.Ranks.{Ranked, small, other, ranked, ranks-length, ranks-entry}
 
 -- ---- one letter
@@ -27,13 +27,11 @@ rank-other letter h = go h (ranked letter)
     go (inl h) (small a b p) = absurd (omega arith)
     go (inr h) (small a b p) = absurd (omega arith)
 
-pub small-as-capital : (k : ℕ) → k < 26 → (rank (97 + k) ≡ 65 + k) × (rank (65 + k) ≡ 65 + k)
+pub small-as-capital : SmallRankAsCapitals
 small-as-capital k h = (omega (arith, rank-small (97 + k) (omega arith) (omega arith)), rank-other (65 + k) (inl (omega arith)))
 
 masked-rank : (a b : ℕ) → Masks a b → rank a ≡ rank b
-masked-rank a b M =
-    let s = small-as-capital (M .letter) (M .below) in
-    ap rank (M .is-small) ∙ s .0 ∙ sym (s .1) ∙ sym (ap rank (M .is-capital))
+masked-rank a b M = omega (arith, rank-small a (omega arith) (omega arith), rank-other b (inl (omega arith)))
 
 pub same-rank : (a b : ℕ) → SameLetter a b → rank a ≡ rank b
 same-rank a b (inl p) = ap rank p

@@ -21,10 +21,10 @@ unfolding rank
 ranked letter = go (tri letter 97) (tri letter 122)
   where
     below : letter < 97 → Ranked letter
-    below h = other (inl h) (rw (lt-leb 97 letter h, rank))
+    below h = other (inl (omega arith)) (rw (lt-leb 97 letter h, rank))
 
     above : 122 < letter → Ranked letter
-    above h = let g : 97 ≤ letter = omega arith in other (inr h) (rw (le-leb 97 letter g, lt-leb letter 122 h, rank))
+    above h = let g : 97 ≤ letter = omega arith in other (inr (omega arith)) (rw (le-leb 97 letter g, lt-leb letter 122 h, rank))
 
     between : 97 ≤ letter → letter ≤ 122 → Ranked letter
     between h g = let p : 65 + (letter - 97) ≡ letter - 32 = omega arith in small h g (rw (le-leb 97 letter h, le-leb letter 122 g, rank) p)
