@@ -31,7 +31,7 @@ returns : tie.Need-returns Inv-loop μ-loop
 returns c =
     let d = c .before .before .before .before in
     let i = inside d .before .loop .inv in
-    (at-unequal _ _ _ _ _ _ (i .2) (more d) _ _ (c .before .before .rank-at .ensures) (c .before .rank-at2 .ensures) (c .if2 .taken) (omega arith) (omega arith), omega arith)
+    (at-unequal _ _ _ _ _ _ (i .2) (more d) _ _ (c .before .before .rank-at .ensures) (c .before .rank-at2 .ensures) (omega arith) (omega arith) (omega arith), omega arith)
 
 loop-again : tie.Need-loop-again Inv-loop μ-loop
 loop-again c =
