@@ -10,6 +10,7 @@ ghost use Rattle.brackets.specs.Answers.{ReadBack};
 use excess::bit;
 use refusal::Refusal;
 use refusal::Verdict;
+use suffix::tree_length;
 
 fn spare_bit_set(n: usize, tree: &[u8]) -> bool
     requires { ⌜ (n ≤ 1000000) × (length (now tree) ≡ treeLength n) ⌝ }
@@ -47,7 +48,7 @@ pub fn verdict_on(n: usize, tree: &[u8]) -> Verdict
     if n > 1000000 {
         return Verdict::Refused(Refusal::TooLong);
     }
-    if tree.len() != (n + 3) / 4 {
+    if tree.len() != tree_length(n) {
         return Verdict::Refused(Refusal::TreeLength);
     }
     flaw(n, tree)
@@ -99,7 +100,7 @@ pub fn read(n: usize, tree: &[u8], previous: &mut [u32], next: &mut [u32]) -> Ve
     if next.len() != n {
         return Verdict::Refused(Refusal::TableLength);
     }
-    if tree.len() != (n + 3) / 4 {
+    if tree.len() != tree_length(n) {
         return Verdict::Refused(Refusal::TreeLength);
     }
     let found = flaw(n, tree);

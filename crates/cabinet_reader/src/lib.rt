@@ -8,9 +8,9 @@ ghost use Rattle.cabinet.specs.LittleEndian.{numberAt};
 ghost use Rattle.cabinet.specs.File.{countOf};
 ghost use Rattle.cabinet.specs.Refusals.{notMarked, wrongContents, fileFlaw, readRefusal};
 ghost use Rattle.cabinet.specs.Answers.{EntryRead};
-use cabinet::tree_length;
 use refusal::Refusal;
 use refusal::Verdict;
+use suffix::tree_length;
 
 // Four bytes as a number, the lowest first.
 fn joined(a: u8, b: u8, c: u8, d: u8) -> u32
@@ -55,7 +55,7 @@ fn wrong_contents(file: &[u8], count: usize) -> bool
         if n > 1000000 {
             return true;
         }
-        end += tree_length(n);
+        end += tree_length(n as usize);
         k += 1;
     }
     end != file.len()
@@ -70,7 +70,7 @@ fn flaw_of(file: &[u8], count: usize) -> Verdict
     let mut k = 0;
     while k < count {
         let n = number_at(file, 12 + 8 * k);
-        let end = start + tree_length(n);
+        let end = start + tree_length(n as usize);
         let verdict = brackets::verdict_on(n as usize, &file[start..end]);
         match verdict {
             Verdict::Refused(_) => {
@@ -126,6 +126,6 @@ pub fn read<'a>(
     let start = number_at(file, 8 + 8 * entry) as usize;
     *letters = n;
     *place = start;
-    let end = start + tree_length(n);
+    let end = start + tree_length(n as usize);
     &file[start..end]
 }

@@ -9,9 +9,9 @@ ghost use Rattle.cabinet.specs.LittleEndian.{fourBytes};
 ghost use Rattle.cabinet.specs.File.{contentsEnd, contents, cabinet, bodyBytes, countIn};
 ghost use Rattle.cabinet.specs.Refusals.{anyTooLong, treesFlaw, writeRefusal, Allowed, Fitting};
 ghost use Rattle.cabinet.specs.Answers.{Written};
-use cabinet::tree_length;
 use refusal::Refusal;
 use refusal::Verdict;
+use suffix::tree_length;
 
 // Whether a letter count passes 1,000,000: 1.
 fn any_too_long(counts: &[u32]) -> bool
@@ -35,7 +35,7 @@ fn body_bytes(counts: &[u32]) -> usize
     let mut bytes = 0;
     let mut k = 0;
     while k < counts.len() {
-        bytes += tree_length(counts[k]);
+        bytes += tree_length(counts[k] as usize);
         k += 1;
     }
     bytes
@@ -49,9 +49,9 @@ fn flaw_of(counts: &[u32], trees: &[u8]) -> Verdict
     let mut start = 0;
     let mut k = 0;
     while k < counts.len() {
-        let n = counts[k];
+        let n = counts[k] as usize;
         let end = start + tree_length(n);
-        let verdict = brackets::verdict_on(n as usize, &trees[start..end]);
+        let verdict = brackets::verdict_on(n, &trees[start..end]);
         match verdict {
             Verdict::Refused(_) => {
                 return verdict;
@@ -114,7 +114,7 @@ fn put_contents(counts: &[u32], file: &mut [u8])
     while k < counts.len() {
         let n = counts[k];
         put_entry(file, 8 + 8 * k, place, n);
-        place += tree_length(n);
+        place += tree_length(n as usize);
         k += 1;
     }
 }

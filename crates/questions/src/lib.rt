@@ -8,6 +8,7 @@ use openings::select;
 use refusal::Answer;
 use refusal::Refusal;
 use refusal::Verdict;
+use suffix::tree_length;
 
 mod openings;
 
@@ -18,7 +19,7 @@ fn question(n: usize, tree: &[u8], position: usize) -> Verdict
     if n > 1000000 {
         return Verdict::Refused(Refusal::TooLong);
     }
-    if tree.len() != (n + 3) / 4 {
+    if tree.len() != tree_length(n) {
         return Verdict::Refused(Refusal::TreeLength);
     }
     if position >= n {

@@ -2,6 +2,7 @@
 ghost use mathlib.Core.Path.{_≡_};
 ghost use Rattle.refusal.specs.Numbers.{numberOf, verdictNumber};
 ghost use Rattle.refusal.specs.Conditions.{buildRefusal, tablesRefusal};
+use suffix::tree_length;
 
 pub enum Refusal {
     TooLong,
@@ -97,7 +98,7 @@ pub fn build_verdict(
     if let Verdict::Refused(refusal) = tables {
         return Verdict::Refused(refusal);
     }
-    if tree != (n + 3) / 4 {
+    if tree != tree_length(n) {
         return Verdict::Refused(Refusal::TreeLength);
     }
     if rows > n {

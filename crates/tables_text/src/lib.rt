@@ -2,6 +2,7 @@
 use build::Built;
 use libc::STDIN_FILENO;
 use libc::STDOUT_FILENO;
+use suffix::tree_length;
 ghost use mathlib.Core.Path.{_≡_};
 ghost use mathlib.Core.List.{[], _∷_};
 ghost use Prim.Native.Nat.{_+_, _≤_, _<_};
@@ -217,7 +218,7 @@ fn put_tables_of(out: &mut [u8], letters: &[u8]) -> usize
     ensures { λ r. ⌜ Wrote (now (out .entry)) (now (out .exit)) (tablesText (ranks (now (letters .entry)))) 0 r ⌝ }
 {
     let n = letters.len();
-    let t = (n + 3) / 4;
+    let t = tree_length(n);
     let mut previous = table();
     let mut next = table();
     let mut previous_match = table();

@@ -5,6 +5,7 @@ use Prim.Native.Nat.{ℕ, suc}
 use native.Mathlib.Omega.{arith}
 use borrow.Author.Needs.{needs}
 use lib.ListN.{length}
+use Rattle.suffix.specs.Tree.{treeLength}
 use Rattle.refusal.specs.Numbers.{verdictNumber}
 use Rattle.brackets.specs.Answers.{Lent, refusalOf}
 use Rattle.shape.proofs.Conditions.{read-1, read-2, read-2-next, read-3, read-flaw}
@@ -41,14 +42,14 @@ returns-3 c =
     let e = read-2-next (s .args .n) (s .args .tree .now) (length (s .args .previous .now)) (length (s .args .next .now)) (c .before .before .if1 .left) (c .before .if2 .left) (c .if3 .taken) in
     record { answers = sym e; leaves = lent-kept (s .args .n) (s .args .tree .now) (lent s) (kept s 1 e) }
 
-add-if4 : tie.Need-add-if4
-add-if4 c = search needs
-
 returns-4 : tie.Need-returns-4
 unfolding refusalOf
 returns-4 c =
-    let s = c .before .before .before .before .before .before .before in
-    let e = read-3 (s .args .n) (s .args .tree .now) (length (s .args .previous .now)) (length (s .args .next .now)) (c .before .before .before .if1 .left) (c .before .before .if2 .left) (c .before .if3 .left) (c .if4 .taken) in
+    let t = c .before in
+    let d = t .before in
+    let s = d .before .before .before .before .before .before in
+    let q : length (s .args .tree .now) ≢ treeLength (s .args .n) = λ z. c .if4 .taken (z ∙ sym (t .tree-length .ensures)) in
+    let e = read-3 (s .args .n) (s .args .tree .now) (length (s .args .previous .now)) (length (s .args .next .now)) (d .before .before .if1 .left) (d .before .if2 .left) (d .if3 .left) q in
     record { answers = sym e; leaves = lent-kept (s .args .n) (s .args .tree .now) (lent s) (kept s 2 e) }
 
 flaw-requires : tie.Need-flaw-requires
@@ -62,22 +63,27 @@ enum-told-2 c = search needs
 
 -- the flaw is what reading answers
 start : tie.After-flaw → tie.Start
-start c = c .before .before .before .before .before .before .before .before
+start c = c .before .before .before .before .before .before .before .before .before
+
+sized : (c : tie.After-flaw) → length (start c .args .tree .now) ≡ treeLength (start c .args .n)
+unfolding start
+sized c = c .before .if4 .left ∙ c .before .before .tree-length .ensures
 
 found : (c : tie.After-flaw) → verdictNumber (c .flaw .result) ≡ refusalOf (start c .args .n) (start c .args .tree .now) (lent (start c))
 unfolding refusalOf start
 found c =
-    let d = c .before in
-    let s = c .before .before .before .before .before .before .before .before in
+    let d = c .before .before .before in
+    let s = start c in
     c .flaw .ensures
-    ∙ sym (read-flaw (s .args .n) (s .args .tree .now) (length (s .args .previous .now)) (length (s .args .next .now)) (d .before .before .before .if1 .left) (d .before .before .if2 .left) (d .before .if3 .left) (d .if4 .left))
+    ∙ sym (read-flaw (s .args .n) (s .args .tree .now) (length (s .args .previous .now)) (length (s .args .next .now)) (d .before .before .if1 .left) (d .before .if2 .left) (d .if3 .left) (sized c))
 
 fill-tables-requires : tie.Need-fill-tables-requires
+unfolding start
 fill-tables-requires c κs =
     let m = c .before .before .before in
     let f = m .before in
-    let d = f .before in
-    (d .before .before .before .if1 .left, d .if4 .left, d .before .before .if2 .left, d .before .if3 .left, sym (f .flaw .ensures) ∙ accepted-of (f .flaw .result) (m .match .keys2))
+    let d = f .before .before .before in
+    (d .before .before .if1 .left, sized f, d .before .if2 .left, d .if3 .left, sym (f .flaw .ensures) ∙ accepted-of (f .flaw .result) (m .match .keys2))
 
 returns-5 : tie.Need-returns-5
 unfolding start
@@ -116,7 +122,7 @@ read-spec =
     returns
     returns-2
     returns-3
-    add-if4
+    (λ c κs. tt)
     returns-4
     flaw-requires
     enum-told

@@ -108,6 +108,7 @@ flaw-of-spec =
     (λ c. omega arith)
     (λ c. omega arith)
     number-at-requires
+    (λ c. omega arith)
     (λ c κs. tt)
     add-end
     (λ c. omega arith)

@@ -116,6 +116,7 @@ read-spec =
     add-number-at-2
     number-at-requires-2
     (λ c. search needs)
+    (λ c. omega arith)
     (λ c κs. tt)
     add-end
     (λ c. omega arith)

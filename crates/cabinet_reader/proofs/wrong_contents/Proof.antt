@@ -72,6 +72,7 @@ wrong-contents-spec =
     (λ c. omega arith)
     (λ c κs. omega arith)
     returns-3
+    (λ c. omega arith)
     (λ c κs. tt)
     add-end-2
     (λ c. omega arith)

@@ -19,6 +19,9 @@ loop-holds : tie.Need-loop-holds Inv-loop μ-loop
 unfolding sumBelow
 loop-holds c = (omega arith, omega arith)
 
+cast-tree-length : tie.Need-cast-tree-length Inv-loop μ-loop
+cast-tree-length c = let l = c .before .before in omega (arith, l .before .before .pre .short (l .loop .k) (omega arith))
+
 add-bytes : tie.Need-add-bytes Inv-loop μ-loop
 add-bytes c =
     let l = c .before .before .before in
@@ -42,6 +45,7 @@ body-bytes-spec =
     loop-holds
     (λ c. omega arith)
     (λ c. omega arith)
+    cast-tree-length
     (λ c κs. tt)
     add-bytes
     (λ c. omega arith)

@@ -24,6 +24,9 @@ abbrev μ-loop : tie.MeasureT-loop
 loop-holds : tie.Need-loop-holds Inv-loop μ-loop
 loop-holds c = let s = c .before .before in (omega arith, sound-none (s .args .trees .now) 0 (countIn (s .args .counts .now)))
 
+cast-n : tie.Need-cast-n Inv-loop μ-loop
+cast-n c = let l = c .before .before in omega (arith, l .before .before .before .pre .allowed .short (l .loop .k) (omega arith))
+
 -- tree k lies within the trees, and has few letters
 module _ (c : tie.After-tree-length Inv-loop μ-loop) where
   abbrev l : tie.At-loop Inv-loop μ-loop
@@ -54,9 +57,6 @@ module _ (c : tie.After-tree-length Inv-loop μ-loop) where
 
 add-end : tie.Need-add-end Inv-loop μ-loop
 add-end c = omega (arith, within c)
-
-cast-verdict-on : tie.Need-cast-verdict-on Inv-loop μ-loop
-cast-verdict-on c = omega (arith, short c)
 
 part-verdict-on-end : tie.Need-part-verdict-on-end Inv-loop μ-loop
 part-verdict-on-end c = within c
@@ -101,9 +101,9 @@ flaw-of-spec =
     loop-holds
     (λ c. omega arith)
     (λ c. omega arith)
+    cast-n
     (λ c κs. tt)
     add-end
-    cast-verdict-on
     (λ c. omega arith)
     (λ c. omega arith)
     part-verdict-on-end

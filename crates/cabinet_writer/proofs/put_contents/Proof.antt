@@ -22,6 +22,9 @@ put-entry-requires c κs =
     let S = l .loop .inv .1 in
     (omega (arith, S .same), omega (arith, place-most (s .args .counts .now) (s .args .file .now) S (s .pre .0) (l .loop .inv .0)))
 
+cast-tree-length : tie.Need-cast-tree-length Inv-loop μ-loop
+cast-tree-length c = let l = c .before .before .before .before .before .before in omega (arith, l .before .before .before .pre .0 .short (l .loop .k) (omega arith))
+
 add-place-2 : tie.Need-add-place-2 Inv-loop μ-loop
 add-place-2 c =
     let l = c .before .before .before .before .before .before .before in
@@ -55,6 +58,7 @@ put-contents-spec =
     (λ c. omega arith)
     (λ c. omega arith)
     put-entry-requires
+    cast-tree-length
     (λ c κs. tt)
     add-place-2
     (λ c. omega arith)

@@ -4,7 +4,7 @@ use native.Mathlib.Omega.{arith}
 use borrow.Author.Needs.{needs}
 use Rattle.refusal.specs.Numbers.{verdictNumber}
 use Rattle.refusal.specs.Conditions.{tablesRefusal}
-use Rattle.refusal.proofs.Tables.{refused-first, taken, says-three, says-four, says-taken}
+use Rattle.refusal.proofs.Tables.{refused-first, says-three, says-four, says-taken}
 use Rattle.refusal.proofs.build_verdict.Statement.{statement}
 use Rattle.refusal.proofs.build_verdict.Tie as tie
 
@@ -15,17 +15,14 @@ accepted m = sym (m .before .before .tables-verdict .ensures) ∙ ap verdictNumb
 returns : tie.Need-returns
 returns c = refused-first _ _ _ _ _ _ _ (c .before .tables .given .0 .0) (sym (ap verdictNumber (c .before .tables .given .1)) ∙ c .before .before .before .tables-verdict .ensures)
 
-add-if1 : tie.Need-add-if1
-add-if1 c = let t = taken _ _ _ _ _ (accepted c) in omega (arith, t .few)
-
 returns-2 : tie.Need-returns-2
-returns-2 c = says-three _ _ _ _ _ _ _ (accepted (c .before)) (omega arith) (omega arith)
+returns-2 c = says-three _ _ _ _ _ _ _ (accepted (c .before .before)) (omega arith) (omega arith)
 
 returns-3 : tie.Need-returns-3
-returns-3 c = says-four _ _ _ _ _ _ _ (accepted (c .before .before)) (omega arith) (omega arith) (omega arith)
+returns-3 c = says-four _ _ _ _ _ _ _ (accepted (c .before .before .before)) (omega arith) (omega arith) (omega arith)
 
 returns-4 : tie.Need-returns-4
-returns-4 c = says-taken _ _ _ _ _ _ _ (accepted (c .before .before)) (omega arith) (omega arith) (omega arith)
+returns-4 c = says-taken _ _ _ _ _ _ _ (accepted (c .before .before .before)) (omega arith) (omega arith) (omega arith)
 
 pub build-verdict-spec : {M : Type 1} → statement M
-build-verdict-spec = tie.close (tie.spec (λ c κs. tt) (λ c. search needs) returns (λ c. search needs) add-if1 returns-2 returns-3 returns-4)
+build-verdict-spec = tie.close (tie.spec (λ c κs. tt) (λ c. search needs) returns (λ c. search needs) (λ c κs. tt) returns-2 returns-3 returns-4)
