@@ -10,14 +10,15 @@ use Rattle.suffix.specs.Search.{sumBelow}
 use Rattle.suffix.specs.Lyndon.{part}
 use Rattle.suffix.specs.Tree.{treeLength}
 use Rattle.suffix.proofs.Cases.{Same, same, other, same?}
-use Rattle.suffix.proofs.Search.{tabulate-same}
+use Rattle.suffix.proofs.Search.{tabulate-same, tabulate-length, tabulate-entry}
 use Rattle.refusal.specs.Numbers.{firstOf}
 use Rattle.refusal.proofs.Numbers.{first-at, none-first}
 use Rattle.refusal.specs.Conditions.{flawNumber, treeRefusal}
 use Rattle.shape.proofs.Conditions.{tree-flaw}
-use Rattle.cabinet.specs.File.{bodyBytes, bodyIn}
-use Rattle.cabinet.specs.Refusals.{bodiesFlaw}
+use Rattle.cabinet.specs.File.{contentsEnd, bodyBytes, bodyIn, countIn, countOf, lettersOf, countsOf, bodiesOf}
+use Rattle.cabinet.specs.Refusals.{bodiesFlaw, fileFlaw, writeRefusal}
 use Rattle.cabinet.proofs.Contents.{bytes-same, bytes-more}
+use Rattle.cabinet.proofs.Conditions.{Right, write-flaw}
 
 -- bodies whose first is at `first`, and the same bytes from there on
 module _ (bytes : List ℕ) (first : ℕ) (f g : ℕ → ℕ) where
@@ -33,6 +34,28 @@ module _ (bytes : List ℕ) (first : ℕ) (f g : ℕ → ℕ) where
       ap firstOf
       (tabulate-same (λ k. flawNumber (f k) (bodyIn bytes first f k)) (λ k. flawNumber (g k) (bodyIn (drop first bytes) 0 g k)) count
       (λ k h. ap₂ flawNumber (q k h) (body-moved k (λ j w. q j (omega arith)) (q k h))))
+
+-- of what a file with right contents says, the writer would refuse a flaw of its bodies and nothing else
+module _ (file : List ℕ) (few : countOf file ≤ 64) (R : Right file) where
+  abbrev count : ℕ
+  count = countOf file
+
+  counted : length (countsOf file) ≡ count
+  counted = tabulate-length (lettersOf file) count
+
+  listed : (k : ℕ) → k < count → countIn (countsOf file) k ≡ lettersOf file k
+  listed = tabulate-entry (lettersOf file) count
+
+  bytes : bodyBytes (countIn (countsOf file)) (length (countsOf file)) ≡ bodyBytes (lettersOf file) count
+  bytes = ap (bodyBytes (countIn (countsOf file))) counted ∙ bytes-same (countIn (countsOf file)) (lettersOf file) count listed
+
+  pub flaw-apart : writeRefusal (countsOf file) (bodiesOf file) (length file) ≡ fileFlaw file
+  flaw-apart =
+      write-flaw (countsOf file) (bodiesOf file) (length file)
+      (record { few = omega (arith, counted, few); short = λ k h. let w : k < count = omega (arith, counted) in omega (arith, listed k w, R .short k w) })
+      (omega (arith, length-drop (contentsEnd count) file, R .ends, bytes)) (omega (arith, counted, R .ends, bytes))
+      ∙ ap (λ k. bodiesFlaw (bodiesOf file) 0 (countIn (countsOf file)) k) counted
+      ∙ sym (flaw-moved file (contentsEnd count) (lettersOf file) (countIn (countsOf file)) count (λ k h. sym (listed k h)))
 
 -- the verdict on a body as a tree is that on its flaws
 pub body-flaw : (bytes : List ℕ) (start n k : ℕ) {m : ℕ} → m ≡ n → n ≤ 1000000 → start + treeLength n ≤ length bytes → k ≡ treeLength n

@@ -6,8 +6,7 @@ use mathlib.Core.List.{List}
 use Prim.Native.Nat.{ℕ, suc, _+_, _≤_, _<_}
 use native.Mathlib.Omega.{arith}
 use lib.Dec.{eqb}
-use lib.ListN.{length, getD, take}
-use lib.Seq.{ext-getD, getD-take, length-take-le}
+use lib.ListN.{length}
 use borrow.Author.Tests.{lt-ltb, le-ltb, ltb-false, eqb-true, eq-eqb, ne-eqb, leb-false, lt-leb, le-leb, not-false}
 use Rattle.suffix.specs.Search.{sumBelow}
 use Rattle.suffix.specs.Tree.{treeLength}
@@ -16,45 +15,13 @@ use Rattle.refusal.specs.declared.Refusal.the-variants.{TooLong, TreeLength, Po
 use Rattle.refusal.specs.Numbers.{firstOf, numberIf}
 use Rattle.refusal.specs.Conditions.{tooLong, positionOutside}
 use Rattle.refusal.proofs.Numbers.{neither, first-none, first-only, nothing-found}
-use Rattle.cabinet.specs.File.{mark, contentsEnd, bodyBytes, countIn, countOf, placeOf, lettersOf, endBefore}
+use Rattle.cabinet.specs.File.{contentsEnd, bodyBytes, countIn, countOf, placeOf, lettersOf, endBefore}
 use Rattle.cabinet.proofs.Contents.{bytes-up}
 use Rattle.cabinet.specs.Refusals.{notMarked, tooManyEntries, wrongContents, fileFlaw, readRefusal, fileRefusal, anyTooLong, sizeOff, treesFlaw, writeRefusal, Allowed, Fitting}
 
 refuted : (b : Bool) → (b ≡ false → ⊥) → b ≡ true
 refuted true q = refl
 refuted false q = absurd (q refl)
-
--- ---- 9
-
--- a file that is long enough and begins with the mark
-pub record Marked (file : List ℕ) : Type 0 where
-  pub long : 8 ≤ length file
-  pub begins : take 4 file ≡ mark
-
-module _ (file : List ℕ) where
-  pub marked : notMarked file ≡ false → Marked file
-  unfolding notMarked
-  marked e =
-      let b = neither _ _ e in
-      let long = ltb-false (length file) 8 (b .0) in
-      let four = length-take-le 4 file (omega arith) in
-      record {
-        long = long;
-        begins =
-            ext-getD 0 (take 4 file) mark four
-            (λ i h. getD-take 4 file i 0 (omega arith) ∙ eqb-true _ _ (not-false _ (any-not (λ k. not (eqb (getD file k 0) (getD mark k 0))) 4 (b .1) i (omega arith))));
-      }
-
-  pub not-unmarked : Marked file → notMarked file ≡ false
-  unfolding notMarked
-  not-unmarked M =
-      simp (
-        le-ltb (length file) 8 (M .long),
-        any-false (λ k. not (eqb (getD file k 0) (getD mark k 0))) 4 (λ k h. ap not (eq-eqb _ _ (sym (getD-take 4 file k 0 h) ∙ ap (λ l. getD l k 0) (M .begins)))),
-      )
-
-  pub unmarked : (Marked file → ⊥) → notMarked file ≡ true
-  unmarked q = refuted (notMarked file) (λ e. q (marked e))
 
 -- ---- 11
 

@@ -1,4 +1,5 @@
 pub mod LittleEndian
+pub mod Marks
 pub mod Contents
 pub mod Files
 pub mod Conditions

@@ -1,4 +1,4 @@
--- An accepted file is the file of exactly one list of letter counts and trees.
+-- An accepted file is the file of exactly one mark and one list of letter counts and trees.
 use mathlib.Core.Path.{_≡_, refl, sym, ap, ap₂, _∙_}
 use mathlib.Core.List.{List, [], _∷_, _++_, map}
 use Prim.Native.Nat.{ℕ, zero, suc, _+_, _≤_, _<_}
@@ -12,10 +12,11 @@ use Rattle.refusal.specs.Conditions.{flawNumber, treeRefusal}
 use Rattle.refusal.proofs.Numbers.{unless-taken, all-none}
 use Rattle.shape.proofs.Conditions.{tree-flaw}
 use Rattle.shape.proofs.Laws.{whole}
-use Rattle.cabinet.specs.File.{contentsEnd, cabinet, bodyIn, countIn, countOf, lettersOf, endBefore, bodyOf, countsOf, bodiesOf}
+use Rattle.cabinet.specs.File.{contentsEnd, markedFile, bodyIn, countIn, markOf, countOf, lettersOf, endBefore, bodyOf, countsOf, bodiesOf}
 use Rattle.cabinet.specs.Refusals.{bodiesFlaw}
 use Rattle.cabinet.specs.Claims.{Entry, entryIn, endToEnd, AreTrees, AcceptedIsOfOne}
-use Rattle.cabinet.proofs.Files.{counts-back, bodies-back}
+use Rattle.cabinet.proofs.Marks.{marked, mark-met, one-mark}
+use Rattle.cabinet.proofs.Files.{mark-back, counts-back, bodies-back}
 use Rattle.cabinet.proofs.Conditions.{Right, end-more, body-fits, Accepted, accepted, reads}
 use Rattle.cabinet.proofs.Laws.{file-again}
 
@@ -120,19 +121,24 @@ pub acceptedIsOfOne : AcceptedIsOfOne
 acceptedIsOfOne file small e =
     let A = accepted file e in
     let trees = trees-from file A (countOf file) 0 (omega arith) in
+    let M = marked file (A .marked) in
     record {
+      mark = M .mark;
       entries = entries file A;
       storable = record { few = omega (arith, length-from file A (countOf file) 0, A .few); trees = trees };
-      is = ap₂ cabinet (counts-of file A) (bodies-of file A) ∙ file-again file small A;
+      is = ap₂ (markedFile (M .mark)) (counts-of file A) (bodies-of file A) ∙ file-again file small A;
+      met = mark-met file M;
       reads = λ k h.
           let w : k < countOf file = omega (arith, length-from file A (countOf file) 0) in
           let r = reads file k A w in
           let z : 0 + k ≡ k = omega arith in
-          rw (entry-from file A (countOf file) 0 k w, z) (record { taken = r; letters = unless-taken _ _ _ r; body = unless-taken _ _ _ r });
-      only = λ others K z.
+          rw (entry-from file A (countOf file) 0 k w, z) (record { taken = r; met = unless-taken _ _ _ r ∙ mark-met file M; letters = unless-taken _ _ _ r; body = unless-taken _ _ _ r });
+      only = λ other others K z.
           let few : length (countsIn others) ≤ 64 = omega (arith, length-map others (λ entry. entry .letters), K .few) in
-          let shorts = short others (K .trees) in
-          one others (entries file A) (K .trees) trees
-          (sym (counts-back (countsIn others) (endToEnd others) few shorts) ∙ ap countsOf z ∙ sym (counts-of file A))
-          (sym (bodies-back (countsIn others) (endToEnd others) few shorts) ∙ ap bodiesOf z ∙ sym (bodies-of file A));
+          let shorts = short others (K .trees) in (
+            one-mark other (M .mark) (sym (mark-back other (countsIn others) (endToEnd others)) ∙ ap markOf z ∙ mark-met file M),
+            one others (entries file A) (K .trees) trees
+                (sym (counts-back other (countsIn others) (endToEnd others) few shorts) ∙ ap countsOf z ∙ sym (counts-of file A))
+                (sym (bodies-back other (countsIn others) (endToEnd others) few shorts) ∙ ap bodiesOf z ∙ sym (bodies-of file A)),
+          );
     }

@@ -1,4 +1,4 @@
--- Document 02, T-01: what writer and reader answer, and what they leave in lent memory.
+-- Document 02, T-01 and T-04: what writer and reader answer, and what they leave in lent memory.
 use mathlib.Core.Path.{_≡_}
 use mathlib.Core.List.{List, []}
 use Prim.Native.Nat.{ℕ, _+_}
@@ -6,7 +6,7 @@ use lib.ListN.{length}
 use denote.Ref.{RefT}
 use Rattle.refusal.specs.Numbers.{unlessRefused, verdictNumber}
 use Rattle.refusal.specs.declared.Verdict.{Verdict}
-use Rattle.cabinet.specs.File.{cabinet, placeOf, lettersOf, bodyOf}
+use Rattle.cabinet.specs.File.{cabinet, markOf, placeOf, lettersOf, bodyOf}
 use Rattle.cabinet.specs.Refusals.{readRefusal, writeRefusal}
 
 -- ---- the writer "fills a buffer of exactly the file's size"; refused, it leaves the buffer as it was
@@ -29,10 +29,15 @@ readPlace file entry = unlessRefused (readRefusal file entry) (placeOf file entr
 abbrev pub readLetters : List ℕ → ℕ → ℕ
 readLetters file entry = unlessRefused (readRefusal file entry) (lettersOf file entry) 0
 
--- The number, 0 for none; the letter count n; the place `at`; the part's bytes; and that the part is of the file lent: its pointer, a block and
--- a place in it, is that of the file, moved on by the place.
-pub record EntryRead (file : RefT (List ℕ)) (entry number n at : ℕ) (part : RefT (List ℕ)) : Type 0 where
+-- T-04: "the reader takes both marks and says which it met"
+abbrev pub readMark : List ℕ → ℕ → ℕ
+readMark file entry = unlessRefused (readRefusal file entry) (markOf file) 0
+
+-- The number, 0 for none; the mark; the letter count n; the place `at`; the part's bytes; and that the part is of the file lent: its pointer, a
+-- block and a place in it, is that of the file, moved on by the place.
+pub record EntryRead (file : RefT (List ℕ)) (entry number mark n at : ℕ) (part : RefT (List ℕ)) : Type 0 where
   pub refusal : number ≡ readRefusal (file .now) entry
+  pub met : mark ≡ readMark (file .now) entry
   pub letters : n ≡ readLetters (file .now) entry
   pub place : at ≡ readPlace (file .now) entry
   pub body : part .now ≡ readBody (file .now) entry

@@ -1,19 +1,19 @@
--- Document 02, T-01, "Turned away": the conditions, and the order in which writer and reader test them.
+-- Document 02, T-01 and T-04, "Turned away": the conditions, and the order in which writer and reader test them.
 use mathlib.Core.Path.{_≡_}
 use mathlib.Core.Bool.{Bool, not, _||_}
 use mathlib.Core.List.{List, [], _∷_, _++_}
 use Prim.Native.Nat.{ℕ, _+_, _≤_, _<_}
 use lib.Dec.{eqb, ltb}
-use lib.ListN.{length, getD}
+use lib.ListN.{length}
 use Rattle.suffix.specs.Search.{anyBelow, tabulate}
 use Rattle.refusal.specs.declared.Refusal.the-variants.{TooLong, TreeLength, PositionOutside, NotMarked, TooManyEntries, WrongContents}
 use Rattle.refusal.specs.Numbers.{firstOf, numberIf}
 use Rattle.refusal.specs.Conditions.{tooLong, positionOutside, flawNumber}
-use Rattle.cabinet.specs.File.{mark, contentsEnd, bodyBytes, bodyIn, countIn, countOf, placeOf, lettersOf, endBefore}
+use Rattle.cabinet.specs.File.{contentsEnd, bodyBytes, bodyIn, countIn, markOf, countOf, placeOf, lettersOf, endBefore}
 
--- "9 for a file under 8 bytes or with another mark"
-unfoldable pub notMarked : List ℕ → Bool
-notMarked file = ltb (length file) 8 || anyBelow 4 (λ k. not (eqb (getD file k 0) (getD mark k 0)))
+-- T-04: "9 now means a file under 8 bytes or with neither mark."
+abbrev pub notMarked : List ℕ → Bool
+notMarked file = eqb (markOf file) 0
 
 -- "10 for a count above 64"
 abbrev pub tooManyEntries : ℕ → Bool

@@ -1,29 +1,21 @@
 -- Contents that are looked through entry by entry.
-use mathlib.Core.Path.{_≡_, refl, sym, ap, _∙_}
+use mathlib.Core.Path.{_≡_, sym, ap, _∙_}
 use mathlib.Core.Logic.{_≢_}
-use mathlib.Core.Bool.{Bool, true, false, not, true≢false}
+use mathlib.Core.Bool.{true, not}
 use mathlib.Core.List.{List}
 use Prim.Native.Nat.{ℕ, _+_, _*_, _≤_, _<_}
 use native.Mathlib.Omega.{arith}
 use lib.Dec.{eqb}
-use lib.ListN.{length, take}
+use lib.ListN.{length}
 use borrow.Author.Tests.{eq-eqb, ne-eqb}
 use Rattle.suffix.specs.Search.{sumBelow}
 use Rattle.suffix.specs.Tree.{treeLength}
 use Rattle.suffix.proofs.Cases.{Same, same, other, same?}
-use Rattle.cabinet.specs.File.{mark, contentsEnd, countOf, placeOf, lettersOf, endBefore}
-use Rattle.cabinet.specs.Refusals.{notMarked, wrongContents}
+use Rattle.cabinet.specs.File.{contentsEnd, countOf, placeOf, lettersOf, endBefore}
+use Rattle.cabinet.specs.Refusals.{wrongContents}
 use Rattle.cabinet.proofs.Contents.{bytes-most, bytes-more}
 use Rattle.cabinet.proofs.Bodies.{and-here}
-use Rattle.cabinet.proofs.Conditions.{not-unmarked, unmarked, not-wrong, wrong}
-
--- a comparison of the first four bytes with the mark tells whether the file is marked
-pub marked-by : (file : List ℕ) (r : Bool) → 8 ≤ length file → (r ≡ true → take 4 file ≡ mark) → (take 4 file ≡ mark → r ≡ true) → not r ≡ notMarked file
-marked-by file true h p q = sym (not-unmarked file (record { long = h; begins = p refl }))
-marked-by file false h p q = sym (unmarked file (λ M. true≢false (sym (q (M .begins)))))
-
-pub under-eight : (file : List ℕ) → length file < 8 → true ≡ notMarked file
-under-eight file h = sym (unmarked file (λ M. omega (arith, M .long)))
+use Rattle.cabinet.proofs.Conditions.{not-wrong, wrong}
 
 -- k entries are right, and their bodies end at `end`
 pub record RightTo (file : List ℕ) (k end : ℕ) : Type 0 where

@@ -1,12 +1,12 @@
-// The reader of cabinet files: document 02, T-01.
+// The reader of cabinet files: document 02, T-01 and T-04.
 ghost use mathlib.Core.Path.{_≡_};
 ghost use mathlib.Core.Bool.{false};
 ghost use Prim.Native.Nat.{_+_, _*_, _≤_};
 ghost use lib.ListN.{length};
 ghost use Rattle.refusal.specs.Numbers.{verdictNumber};
 ghost use Rattle.cabinet.specs.LittleEndian.{numberAt};
-ghost use Rattle.cabinet.specs.File.{countOf};
-ghost use Rattle.cabinet.specs.Refusals.{notMarked, wrongContents, fileFlaw, readRefusal};
+ghost use Rattle.cabinet.specs.File.{markOf, countOf};
+ghost use Rattle.cabinet.specs.Refusals.{wrongContents, fileFlaw, readRefusal};
 ghost use Rattle.cabinet.specs.Answers.{EntryRead};
 use refusal::Refusal;
 use refusal::Verdict;
@@ -27,14 +27,20 @@ fn number_at(file: &[u8], at: usize) -> u32
     joined(file[at], file[at + 1], file[at + 2], file[at + 3])
 }
 
-// Whether the file is under 8 bytes or has another mark: 9.
-fn not_marked(file: &[u8]) -> bool
-    ensures { λ r. ⌜ r ≡ notMarked (now (file .entry)) ⌝ }
+// Which mark the file has, 1 or 2; 0 where it is under 8 bytes or has neither.
+fn mark_of(file: &[u8]) -> u32
+    ensures { λ r. ⌜ r ≡ markOf (now (file .entry)) ⌝ }
 {
     if file.len() < 8 {
-        return true;
+        return 0;
     }
-    !check::same(&file[..4], b"LYN1")
+    if check::same(&file[..4], b"LYN1") {
+        return 1;
+    }
+    if check::same(&file[..4], b"LYN2") {
+        return 2;
+    }
+    0
 }
 
 // Whether the contents of so many entries are wrong: 11.
@@ -84,11 +90,12 @@ fn flaw_of(file: &[u8], count: usize) -> Verdict
     Verdict::Accepted
 }
 
-// Whether the entry of the file is read: 9, 10, 11, 5, and 6 to 8 body by body.
-fn verdict_on(file: &[u8], entry: usize) -> Verdict
+// Whether the entry of a file with this mark is read: 9, 10, 11, 5, and 6 to 8 body by body.
+fn verdict_on(file: &[u8], mark: u32, entry: usize) -> Verdict
+    requires { ⌜ mark ≡ markOf (now file) ⌝ }
     ensures { λ r. ⌜ verdictNumber r ≡ readRefusal (now (file .entry)) entry ⌝ }
 {
-    if not_marked(file) {
+    if mark == 0 {
         return Verdict::Refused(Refusal::NotMarked);
     }
     let count = number_at(file, 4) as usize;
@@ -104,26 +111,30 @@ fn verdict_on(file: &[u8], entry: usize) -> Verdict
     flaw_of(file, count)
 }
 
-// The body of an entry as a part of the file, with its letter count and its place. Refused, it is the empty part at the file's start, with
-// the number in `refused`, which is 0 otherwise.
+// The body of an entry as a part of the file, with the file's mark, the body's letter count and its place. Refused, it is the empty part at
+// the file's start, with the number in `refused`, which is 0 otherwise.
 pub fn read<'a>(
     file: &'a [u8],
     entry: usize,
     refused: &mut u32,
+    mark: &mut u32,
     letters: &mut u32,
     place: &mut usize,
 ) -> &'a [u8]
-    ensures { λ r. ⌜ EntryRead (file .entry) entry (now (refused .exit)) (now (letters .exit)) (now (place .exit)) r ⌝ }
+    ensures { λ r. ⌜ EntryRead (file .entry) entry (now (refused .exit)) (now (mark .exit)) (now (letters .exit)) (now (place .exit)) r ⌝ }
 {
-    let number = refusal::verdict_number(verdict_on(file, entry));
+    let met = mark_of(file);
+    let number = refusal::verdict_number(verdict_on(file, met, entry));
     *refused = number;
     if number != 0 {
+        *mark = 0;
         *letters = 0;
         *place = 0;
         return &file[..0];
     }
     let n = number_at(file, 12 + 8 * entry);
     let start = number_at(file, 8 + 8 * entry) as usize;
+    *mark = met;
     *letters = n;
     *place = start;
     let end = start + tree_length(n as usize);

@@ -10,8 +10,9 @@ use Rattle.suffix.specs.Tree.{treeLength}
 use Rattle.writing.specs.Writing.{Wrote}
 use Rattle.writing.proofs.Writes.{wrote-none, wrote-then, wrote-byte}
 use Rattle.cabinet.specs.LittleEndian.{bytesOf, fourBytes}
-use Rattle.cabinet.specs.File.{mark, contentsEnd, contents, bodyBytes, countIn}
+use Rattle.cabinet.specs.File.{LYN2, markBytes, contentsEnd, contents, bodyBytes, countIn}
 use Rattle.cabinet.specs.Refusals.{Allowed}
+use Rattle.cabinet.proofs.Marks.{spelled}
 use Rattle.cabinet.proofs.Contents.{bytes-more, bytes-most, contents-more}
 
 -- four stores write a number
@@ -60,8 +61,8 @@ module _ (counts before : List ℕ) where
     entries-all e = rw (take-length counts) at (rw e at (S .wrote))
 
 -- the mark at the start
-pub mark-put : (before after : List ℕ) → after ≡ mark ++ drop 4 before → Wrote before after mark 0 4
-mark-put before after e = record { size = refl; text = ap (take 4) e; rest = ap (drop 4) e }
+pub mark-put : (before after : List ℕ) {d : ℕ} → after ≡ (0x4C ∷ 0x59 ∷ 0x4E ∷ d ∷ []) ++ drop 4 before → d ≡ 0x32 → Wrote before after (markBytes LYN2) 0 4
+mark-put before after e z = let w = e ∙ ap (λ l. l ++ drop 4 before) (spelled LYN2 z) in record { size = refl; text = ap (take 4) w; rest = ap (drop 4) w }
 
 -- a text that fills the buffer
 pub filled : {before after t : List ℕ} {z : ℕ} → Wrote before after t 0 z → z ≡ length after → after ≡ t

@@ -1,4 +1,4 @@
-// The writer of cabinet files: document 02, T-01.
+// The writer of cabinet files: document 02, T-01 and T-04.
 ghost use mathlib.Core.Path.{_≡_};
 ghost use mathlib.Core.List.{_++_};
 ghost use Prim.Native.Nat.{_+_, _≤_, _<_};
@@ -124,7 +124,7 @@ fn fill(counts: &[u32], trees: &[u8], file: &mut [u8])
     requires { ⌜ Fitting (now counts) (now trees) × (length (now file) ≡ contentsEnd (length (now counts)) + length (now trees)) ⌝ }
     ensures { λ _. ⌜ now (file .exit) ≡ cabinet (now (counts .entry)) (now (trees .entry)) ⌝ }
 {
-    bytes::copy(b"LYN1", file);
+    bytes::copy(b"LYN2", file);
     put_number(file, 4, counts.len() as u32);
     put_contents(counts, file);
     bytes::copy(trees, &mut file[8 + 8 * counts.len()..]);

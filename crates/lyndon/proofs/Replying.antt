@@ -61,9 +61,9 @@ module _ {letters part : RefT (List ℕ)} {i j number : ℕ} (e : WordAnswered l
 
 -- entry j of a cabinet file read, and its figures
 pub entry-read :
-    {file part : RefT (List ℕ)} {i j number n at start : ℕ} → EntryRead file j number n at part → j ≡ i → start ≡ at
-    → _≡_ {A = CabinetReply} (record { refusal = number; letters = n; start = start; length = length (part .now) }) (cabinetReply (file .now) i)
-entry-read e z s = rw (s, e .refusal, e .letters, e .place, e .body, z)
+    {file part : RefT (List ℕ)} {i j number mark met n at start : ℕ} → EntryRead file j number met n at part → j ≡ i → mark ≡ met → start ≡ at
+    → _≡_ {A = CabinetReply} (record { refusal = number; mark = mark; letters = n; start = start; length = length (part .now) }) (cabinetReply (file .now) i)
+entry-read e z m s = rw (m, s, e .refusal, e .met, e .letters, e .place, e .body, z)
 
 -- What the called function tells of its answer's figures. It is found first and compared with the reply afterwards, so a function that asks
 -- another question is refused by the names of the two answers.

@@ -12,7 +12,7 @@ use Rattle.repeats.specs.Answers as repeats
 use Rattle.repeats.specs.Refusals.{lists}
 use Rattle.runs.specs.Reported.{workOf}
 use Rattle.cabinet.specs.Refusals.{writeRefusal, readRefusal}
-use Rattle.cabinet.specs.Answers.{writtenFile, readBody, readPlace, readLetters}
+use Rattle.cabinet.specs.Answers.{writtenFile, readBody, readPlace, readLetters, readMark}
 use Rattle.lyndon.specs.declared.BuildReply.{BuildReply}
 use Rattle.lyndon.specs.declared.Reply.{Reply}
 use Rattle.lyndon.specs.declared.PartReply.{PartReply}
@@ -20,7 +20,7 @@ use Rattle.lyndon.specs.declared.CabinetReply.{CabinetReply}
 
 -- the version of the exported structures and functions: it rises when one is added and with every change of one, of what it answers too
 abbrev pub interfaceVersion : ℕ
-interfaceVersion = 2
+interfaceVersion = 3
 
 -- "A refusal carries its number and no other figure": the others are 0
 abbrev pub buildReply : build.Figures → BuildReply
@@ -60,7 +60,13 @@ pub record WriteReplied (counts trees before after : List ℕ) (number : ℕ) : 
   pub replies : number ≡ writeRefusal counts trees (length before)
   pub leaves : after ≡ writtenFile counts trees before
 
--- reading one: the entry's letter count, where its body starts in the file, and the body's length
+-- reading one: the mark met, the entry's letter count, where its body starts in the file, and the body's length
 abbrev pub cabinetReply : List ℕ → ℕ → CabinetReply
 cabinetReply file entry =
-    record { refusal = readRefusal file entry; letters = readLetters file entry; start = readPlace file entry; length = length (readBody file entry) }
+    record {
+      refusal = readRefusal file entry;
+      mark = readMark file entry;
+      letters = readLetters file entry;
+      start = readPlace file entry;
+      length = length (readBody file entry);
+    }

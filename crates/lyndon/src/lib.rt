@@ -9,7 +9,7 @@ use build::Built;
 use refusal::Answer;
 
 // LYNDON_VERSION of the header.
-const VERSION: u32 = 2;
+const VERSION: u32 = 3;
 
 #[repr(C)]
 pub struct BuildReply {
@@ -37,6 +37,7 @@ pub struct PartReply {
 #[repr(C)]
 pub struct CabinetReply {
     pub refusal: u32,
+    pub mark: u32,
     pub letters: u32,
     pub start: usize,
     pub length: usize,
@@ -221,11 +222,20 @@ pub extern "C" fn lyndon_cabinet_read(file: &[u8], entry: usize) -> CabinetReply
     ensures { λ r. ⌜ r ≡ cabinetReply (now (file .entry)) entry ⌝ }
 {
     let mut refused = 0;
+    let mut mark = 0;
     let mut letters = 0;
     let mut place = 0;
-    let body = cabinet_reader::read(file, entry, &mut refused, &mut letters, &mut place);
+    let body = cabinet_reader::read(
+        file,
+        entry,
+        &mut refused,
+        &mut mark,
+        &mut letters,
+        &mut place,
+    );
     CabinetReply {
         refusal: refused,
+        mark,
         letters,
         start: place,
         length: body.len(),

@@ -9,7 +9,7 @@ use lib.ListN.{length, take, drop}
 use borrow.Author.Needs.{needs}
 use Rattle.suffix.specs.Lyndon.{part}
 use Rattle.suffix.specs.Tree.{treeLength}
-use Rattle.cabinet.specs.File.{countOf, placeOf, lettersOf}
+use Rattle.cabinet.specs.File.{markOf, countOf, placeOf, lettersOf}
 use Rattle.cabinet.specs.Refusals.{readRefusal}
 use Rattle.cabinet.proofs.Conditions.{Accepted, taken, body-fits}
 use Rattle.refusal.proofs.Numbers.{unless-taken, unless-refused}
@@ -17,16 +17,17 @@ use Rattle.cabinet_reader.proofs.read.Statement.{statement}
 use Rattle.cabinet_reader.proofs.read.Tie as tie
 
 -- the number is that of the verdict
-number : (c : tie.After-verdict-number) → let s = c .before .before .before in c .verdict-number .result ≡ readRefusal (s .args .file .now) (s .args .entry)
+number : (c : tie.After-verdict-number) → let s = c .before .before .before .before in c .verdict-number .result ≡ readRefusal (s .args .file .now) (s .args .entry)
 number c = c .verdict-number .ensures ∙ c .before .verdict-on .ensures
 
 returns : tie.Need-returns
 returns c =
     let v = c .before .before in
-    let s = v .before .before .before in
+    let s = v .before .before .before .before in
     let h : readRefusal (s .args .file .now) (s .args .entry) ≢ 0 = λ e. c .before .if1 .taken (number v ∙ e) in
     record {
       refusal = number v;
+      met = omega (arith, unless-refused (readRefusal (s .args .file .now) (s .args .entry)) (markOf (s .args .file .now)) 0 h);
       letters = omega (arith, unless-refused (readRefusal (s .args .file .now) (s .args .entry)) (lettersOf (s .args .file .now) (s .args .entry)) 0 h);
       place = sym (unless-refused _ _ _ h);
       body = sym (unless-refused _ _ _ h);
@@ -36,7 +37,7 @@ returns c =
 -- past the refusal: an entry of an accepted file, whose body lies within it
 module _ (c : tie.Else1) where
   abbrev s : tie.Start
-  s = c .before .before .before .before
+  s = c .before .before .before .before .before
 
   abbrev file : List ℕ
   file = s .args .file .now
@@ -95,6 +96,7 @@ returns-2 c =
     let z : at + l .tree-length .result - at ≡ l .tree-length .result = omega arith in
     record {
       refusal = number (e .before);
+      met = e .before .before .before .mark-of .ensures ∙ sym (unless-taken _ _ _ (zero e));
       letters = n ∙ sym (unless-taken _ _ _ (zero e));
       place = p ∙ sym (unless-taken _ _ _ (zero e));
       body = rw z (ap₂ (λ m a. take m (drop a (file e))) (l .tree-length .ensures ∙ ap treeLength n) p ∙ sym (unless-taken _ _ _ (zero e)));
@@ -106,6 +108,7 @@ read-spec =
     tie.close
     (tie.spec
     (λ c κs. tt)
+    (λ c κs. c .mark-of .ensures)
     (λ c κs. tt)
     (λ c. search needs)
     returns
