@@ -3,19 +3,21 @@ use mathlib.Core.Path.{_≡_, sym, ap, _∙_}
 use mathlib.Core.Logic.{_≢_}
 use mathlib.Core.Bool.{true, not}
 use mathlib.Core.List.{List}
-use Prim.Native.Nat.{ℕ, _+_, _*_, _≤_, _<_}
+use Prim.Native.Nat.{ℕ, _+_, _-_, _*_, _≤_, _<_}
 use native.Mathlib.Omega.{arith}
 use lib.Dec.{eqb}
-use lib.ListN.{length}
+use lib.ListN.{length, take, drop, set, length-set, length-drop}
+use lib.Seq.{take-all, getD-set-same, getD-set-other}
 use borrow.Author.Tests.{eq-eqb, ne-eqb}
 use Rattle.suffix.specs.Search.{sumBelow}
 use Rattle.suffix.specs.Tree.{treeLength}
 use Rattle.suffix.proofs.Cases.{Same, same, other, same?}
-use Rattle.cabinet.specs.File.{contentsEnd, countOf, placeOf, lettersOf, endBefore}
-use Rattle.cabinet.specs.Refusals.{wrongContents}
+use Rattle.suffix.proofs.Search.{tabulate-is}
+use Rattle.cabinet.specs.File.{contentsEnd, countIn, countOf, placeOf, lettersOf, endBefore, countsOf}
+use Rattle.cabinet.specs.Refusals.{wrongContents, fileFlaw, writeRefusal}
 use Rattle.cabinet.proofs.Contents.{bytes-most, bytes-more}
-use Rattle.cabinet.proofs.Bodies.{and-here}
-use Rattle.cabinet.proofs.Conditions.{not-wrong, wrong}
+use Rattle.cabinet.proofs.Bodies.{and-here, flaw-apart}
+use Rattle.cabinet.proofs.Conditions.{Right, not-wrong, wrong}
 
 -- k entries are right, and their bodies end at `end`
 pub record RightTo (file : List ℕ) (k end : ℕ) : Type 0 where
@@ -64,3 +66,31 @@ module _ (file : List ℕ) where
 
       pub wrong-letters : 1000000 < lettersOf file k → wrongContents file ≡ true
       wrong-letters q = wrong file (λ R. omega (arith, R .short k h))
+
+-- the letter counts of k entries are in `counts`, which has room for all
+pub record ListedTo (file counts : List ℕ) (k : ℕ) : Type 0 where
+  pub size : length counts ≡ countOf file
+  pub listed : (j : ℕ) → j < k → countIn counts j ≡ lettersOf file j
+
+module _ (file counts : List ℕ) where
+  pub listed-none : length counts ≡ countOf file → ListedTo file counts 0
+  listed-none e = record { size = e; listed = λ j h. absurd (omega arith) }
+
+  module _ {k : ℕ} (L : ListedTo file counts k) where
+    pub listed-more : k < countOf file → {n : ℕ} → n ≡ lettersOf file k → ListedTo file (set counts k n) (k + 1)
+    listed-more h {n = n} e =
+        record {
+          size = length-set counts k n ∙ L .size;
+          listed =
+              and-here (λ j. countIn (set counts k n) j ≡ lettersOf file j) k (λ j w. getD-set-other counts k j n 0 (omega arith) ∙ L .listed j w)
+              (getD-set-same counts k n 0 (omega (arith, L .size)) ∙ e);
+        }
+
+    pub all-listed : k ≡ countOf file → counts ≡ countsOf file
+    all-listed c = tabulate-is (lettersOf file) counts (countOf file) (L .size) (λ j h. L .listed j (omega arith))
+
+-- the verdict on the letter counts and the bodies apart from the file
+pub read-apart : (file : List ℕ) → countOf file ≤ 64 → Right file → {counts : List ℕ} {at size : ℕ} → counts ≡ countsOf file → at ≡ contentsEnd (countOf file) → size ≡ length file - at
+    → writeRefusal counts (take size (drop at file)) (length file) ≡ fileFlaw file
+read-apart file few R {counts = counts} {at = at} {size = size} c a z =
+    ap (λ l. writeRefusal counts l (length file)) (take-all size (drop at file) (omega (arith, length-drop at file))) ∙ rw (c, a) (flaw-apart file few R)

@@ -5,8 +5,8 @@ ghost use Prim.Native.Nat.{_+_, _*_, _≤_};
 ghost use lib.ListN.{length};
 ghost use Rattle.refusal.specs.Numbers.{verdictNumber};
 ghost use Rattle.cabinet.specs.LittleEndian.{numberAt};
-ghost use Rattle.cabinet.specs.File.{markOf, countOf};
-ghost use Rattle.cabinet.specs.Refusals.{wrongContents, fileFlaw, readRefusal};
+ghost use Rattle.cabinet.specs.File.{markOf, countOf, countsOf};
+ghost use Rattle.cabinet.specs.Refusals.{notMarked, wrongContents, readRefusal};
 ghost use Rattle.cabinet.specs.Answers.{EntryRead};
 use refusal::Refusal;
 use refusal::Verdict;
@@ -43,17 +43,17 @@ fn mark_of(file: &[u8]) -> u32
     0
 }
 
-// Whether the contents of so many entries are wrong: 11.
-fn wrong_contents(file: &[u8], count: usize) -> bool
-    requires { ⌜ (count ≡ countOf (now file)) × (count ≤ 64) ⌝ }
-    ensures { λ r. ⌜ r ≡ wrongContents (now (file .entry)) ⌝ }
+// Whether the contents are wrong: 11. Where they are right, it leaves their letter counts in `counts`, which is as long as they are many.
+fn wrong_contents(file: &[u8], counts: &mut [u32]) -> bool
+    requires { ⌜ (length (now counts) ≡ countOf (now file)) × (length (now counts) ≤ 64) ⌝ }
+    ensures { λ r. ⌜ (r ≡ wrongContents (now (file .entry))) × (r ≡ false → now (counts .exit) ≡ countsOf (now (file .entry))) ⌝ }
 {
-    let mut end = 8 + 8 * count;
+    let mut end = 8 + 8 * counts.len();
     if file.len() < end {
         return true;
     }
     let mut k = 0;
-    while k < count {
+    while k < counts.len() {
         if number_at(file, 8 + 8 * k) as usize != end {
             return true;
         }
@@ -61,36 +61,34 @@ fn wrong_contents(file: &[u8], count: usize) -> bool
         if n > 1000000 {
             return true;
         }
+        counts[k] = n;
         end += tree_length(n as usize);
         k += 1;
     }
     end != file.len()
 }
 
-// What is wrong with the first body that has a flaw.
-fn flaw_of(file: &[u8], count: usize) -> Verdict
-    requires { ⌜ (count ≡ countOf (now file)) × (count ≤ 64) × (wrongContents (now file) ≡ false) ⌝ }
-    ensures { λ r. ⌜ verdictNumber r ≡ fileFlaw (now (file .entry)) ⌝ }
+// Whether the entry of a marked file of at most 64 entries is read: 11, 5, and 6 to 8 body by body. The letter counts are put into `counts`.
+fn contents_verdict(file: &[u8], entry: usize, counts: &mut [u32]) -> Verdict
+    requires { ⌜ (notMarked (now file) ≡ false) × (length (now counts) ≡ countOf (now file)) × (length (now counts) ≤ 64) ⌝ }
+    ensures { λ r. ⌜ verdictNumber r ≡ readRefusal (now (file .entry)) entry ⌝ }
 {
-    let mut start = 8 + 8 * count;
-    let mut k = 0;
-    while k < count {
-        let n = number_at(file, 12 + 8 * k);
-        let end = start + tree_length(n as usize);
-        let verdict = brackets::verdict_on(n as usize, &file[start..end]);
-        match verdict {
-            Verdict::Refused(_) => {
-                return verdict;
-            }
-            Verdict::Accepted => {}
-        }
-        start = end;
-        k += 1;
+    if wrong_contents(file, counts) {
+        return Verdict::Refused(Refusal::WrongContents);
     }
-    Verdict::Accepted
+    if counts.len() <= entry {
+        return Verdict::Refused(Refusal::PositionOutside);
+    }
+    cabinet_bodies::verdict_on(counts, &file[8 + 8 * counts.len()..], file.len())
 }
 
-// Whether the entry of a file with this mark is read: 9, 10, 11, 5, and 6 to 8 body by body.
+fn room() -> [u32; 64]
+    ensures { λ r. ⌜ 64 ≡ length r ⌝ }
+{
+    [0; 64]
+}
+
+// Whether the entry of a file with this mark is read: 9, 10, and what the contents and the bodies give.
 fn verdict_on(file: &[u8], mark: u32, entry: usize) -> Verdict
     requires { ⌜ mark ≡ markOf (now file) ⌝ }
     ensures { λ r. ⌜ verdictNumber r ≡ readRefusal (now (file .entry)) entry ⌝ }
@@ -102,13 +100,8 @@ fn verdict_on(file: &[u8], mark: u32, entry: usize) -> Verdict
     if count > 64 {
         return Verdict::Refused(Refusal::TooManyEntries);
     }
-    if wrong_contents(file, count) {
-        return Verdict::Refused(Refusal::WrongContents);
-    }
-    if count <= entry {
-        return Verdict::Refused(Refusal::PositionOutside);
-    }
-    flaw_of(file, count)
+    let mut counts = room();
+    contents_verdict(file, entry, &mut counts[..count])
 }
 
 // The body of an entry as a part of the file, with the file's mark, the body's letter count and its place. Refused, it is the empty part at

@@ -1,4 +1,4 @@
--- `cabinet_writer::any_too_long` meets its contract.
+-- `cabinet_bodies::any_too_long` meets its contract.
 use mathlib.Core.Path.{sym}
 use Prim.Native.Nat.{ℕ, _-_, _≤_, _<_}
 use native.Mathlib.Omega.{arith}
@@ -6,8 +6,8 @@ use lib.ListN.{length}
 use Rattle.cabinet.specs.File.{countIn}
 use Rattle.cabinet.proofs.Conditions.{not-too-long, one-too-long}
 use Rattle.cabinet.proofs.Bodies.{and-here}
-use Rattle.cabinet_writer.proofs.any_too_long.Statement.{statement}
-use Rattle.cabinet_writer.proofs.any_too_long.Tie as tie
+use Rattle.cabinet_bodies.proofs.any_too_long.Statement.{statement}
+use Rattle.cabinet_bodies.proofs.any_too_long.Tie as tie
 
 abbrev Inv-loop : tie.InvT-loop
 Inv-loop counts k₀ k = (k ≤ length counts) × ((j : ℕ) → j < k → countIn counts j ≤ 1000000)

@@ -1,4 +1,4 @@
--- `cabinet_writer::verdict_on` meets its contract.
+-- `cabinet_bodies::verdict_on` meets its contract.
 use mathlib.Core.Path.{_≡_, sym, _∙_}
 use native.Mathlib.Omega.{arith}
 use lib.ListN.{length}
@@ -6,8 +6,8 @@ use Rattle.cabinet.specs.File.{bodyBytes, countIn}
 use Rattle.cabinet.specs.Refusals.{Allowed}
 use Rattle.cabinet.proofs.Contents.{bytes-most}
 use Rattle.cabinet.proofs.Conditions.{none-too-long, write-10, write-1, write-3, write-flaw, trees-off, buffer-off}
-use Rattle.cabinet_writer.proofs.verdict_on.Statement.{statement}
-use Rattle.cabinet_writer.proofs.verdict_on.Tie as tie
+use Rattle.cabinet_bodies.proofs.verdict_on.Statement.{statement}
+use Rattle.cabinet_bodies.proofs.verdict_on.Tie as tie
 
 returns : tie.Need-returns
 returns c = let s = c .before .before .before in sym (write-10 (s .args .counts .now) (s .args .trees .now) (s .args .size) (omega arith))

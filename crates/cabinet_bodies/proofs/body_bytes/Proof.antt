@@ -1,4 +1,4 @@
--- `cabinet_writer::body_bytes` meets its contract.
+-- `cabinet_bodies::body_bytes` meets its contract.
 use mathlib.Core.Path.{_≡_, ap, _∙_}
 use Prim.Native.Nat.{_-_, _≤_}
 use native.Mathlib.Omega.{arith}
@@ -6,8 +6,8 @@ use lib.ListN.{length}
 use Rattle.suffix.specs.Search.{sumBelow}
 use Rattle.cabinet.specs.File.{bodyBytes, countIn}
 use Rattle.cabinet.proofs.Contents.{bytes-more, bytes-most}
-use Rattle.cabinet_writer.proofs.body_bytes.Statement.{statement}
-use Rattle.cabinet_writer.proofs.body_bytes.Tie as tie
+use Rattle.cabinet_bodies.proofs.body_bytes.Statement.{statement}
+use Rattle.cabinet_bodies.proofs.body_bytes.Tie as tie
 
 abbrev Inv-loop : tie.InvT-loop
 Inv-loop counts bytes₀ k₀ bytes k = (k ≤ length counts) × (bytes ≡ bodyBytes (countIn counts) k)

@@ -1,4 +1,4 @@
--- `cabinet_writer::flaw_of` meets its contract.
+-- `cabinet_bodies::flaw_of` meets its contract.
 use mathlib.Core.Path.{_≡_, sym, _∙_}
 use mathlib.Core.List.{List}
 use Prim.Native.Nat.{ℕ, _+_, _-_, _≤_}
@@ -12,8 +12,8 @@ use Rattle.refusal.proofs.Numbers.{accepted-of, refused-of}
 use Rattle.cabinet.specs.File.{countIn}
 use Rattle.cabinet.proofs.Contents.{bytes-more, bytes-up}
 use Rattle.cabinet.proofs.Bodies.{body-flaw, SoundTo, sound-none, sound-more, all-sound, flaw-here}
-use Rattle.cabinet_writer.proofs.flaw_of.Statement.{statement}
-use Rattle.cabinet_writer.proofs.flaw_of.Tie as tie
+use Rattle.cabinet_bodies.proofs.flaw_of.Statement.{statement}
+use Rattle.cabinet_bodies.proofs.flaw_of.Tie as tie
 
 abbrev Inv-loop : tie.InvT-loop
 Inv-loop counts trees start₀ k₀ start k = (k ≤ length counts) × SoundTo trees 0 (countIn counts) k start
