@@ -69,7 +69,7 @@ unfoldable pub markOf : List ℕ → ℕ
 markOf file =
     elim (ltb (length file) 8) [
       | true ↦ 0
-      | false ↦ elim (begins file LYN1) [ true ↦ 1 | false ↦ elim (begins file LYN2) [ true ↦ 2 | false ↦ 0 ] ]
+      | false ↦ elim (begins file LYN1) [ true ↦ markNumber LYN1 | false ↦ elim (begins file LYN2) [ true ↦ markNumber LYN2 | false ↦ 0 ] ]
     ]
 
 -- its entry count; and entry k's place and letter count
