@@ -1,12 +1,14 @@
-//! A cabinet file as document 02 describes it under T-01, written and read. The benchmark compares the
-//! library with this code.
+//! A cabinet file as document 02 describes it under T-01 and T-04, written and read. The benchmark compares
+//! the library with this code.
 
 use std::ops::Range;
 
 use crate::{fast_brackets, MAX_LETTERS};
 
-/// The bytes that a file begins with.
-pub const MARK: &[u8; 4] = b"LYN1";
+/// The bytes that a file begins with: mark 1, of files from before T-04, and mark 2.
+const MARKS: [(u32, &[u8; 4]); 2] = [(1, b"LYN1"), (2, b"LYN2")];
+/// "the writer writes `LYN2` only".
+const WRITTEN: u32 = 2;
 /// The greatest number of entries.
 pub const MAX_ENTRIES: usize = 64;
 /// The bytes of the mark and the count.
@@ -54,23 +56,25 @@ pub fn write(counts: &[u32], trees: &[u8], file: &mut [u8]) -> Result<(), u32> {
         return Err(3);
     }
     judge_bodies(counts.iter().copied(), trees)?;
-    fill(counts, trees, file);
+    fill(WRITTEN, counts, trees, file);
     Ok(())
 }
 
-/// The file with these letter counts and trees, which no refusal is tested for. The trees have the
-/// length that the counts ask for.
-pub fn unchecked(counts: &[u32], trees: &[u8]) -> Vec<u8> {
+/// The file with this mark, 1 or 2, and these letter counts and trees, which no refusal is tested for.
+/// The trees have the length that the counts ask for.
+pub fn unchecked(mark: u32, counts: &[u32], trees: &[u8]) -> Vec<u8> {
     let mut file = vec![0; contents_length(counts.len()) + trees.len()];
-    fill(counts, trees, &mut file);
+    fill(mark, counts, trees, &mut file);
     file
 }
 
 /// Fills a buffer of exactly the file's length.
-fn fill(counts: &[u32], trees: &[u8], file: &mut [u8]) {
+fn fill(mark: u32, counts: &[u32], trees: &[u8], file: &mut [u8]) {
     let (contents, bodies) = file.split_at_mut(contents_length(counts.len()));
     let (head, entries) = contents.split_at_mut(HEAD);
-    head[..4].copy_from_slice(MARK);
+    let found = MARKS.iter().find(|&&(number, _)| number == mark);
+    let (_, bytes) = found.expect("mark 1 or 2");
+    head[..4].copy_from_slice(*bytes);
     head[4..].copy_from_slice(&(counts.len() as u32).to_le_bytes());
     let mut place = contents_length(counts.len());
     for (entry, &n) in entries.chunks_exact_mut(ENTRY).zip(counts) {
@@ -108,12 +112,28 @@ fn wrong_contents(file: &[u8], count: usize) -> bool {
     file.len() != end
 }
 
-/// The letter count of an entry and the part of the file that is its body, or the number of a refusal:
-/// 9, 10, 11, 5, then 6 to 8 body by body.
-pub fn read(file: &[u8], entry: usize) -> Result<(u32, Range<usize>), u32> {
-    if file.len() < HEAD || !file.starts_with(MARK) {
-        return Err(9);
-    }
+/// The number of the mark that a file of 8 bytes or more begins with.
+fn mark_of(file: &[u8]) -> Option<u32> {
+    let found = MARKS
+        .iter()
+        .find(|(_, bytes)| file.len() >= HEAD && file.starts_with(*bytes));
+    found.map(|&(number, _)| number)
+}
+
+/// What a reading gives.
+#[derive(Debug, Clone, PartialEq, Eq)]
+pub struct Body {
+    /// The mark that the reader met: 1 for `LYN1`, 2 for `LYN2`.
+    pub mark: u32,
+    /// The letter count of the entry.
+    pub letters: u32,
+    /// The part of the file that is its body.
+    pub part: Range<usize>,
+}
+
+/// The body of an entry, or the number of a refusal: 9, 10, 11, 5, then 6 to 8 body by body.
+pub fn read(file: &[u8], entry: usize) -> Result<Body, u32> {
+    let mark = mark_of(file).ok_or(9_u32)?;
     let count = number(file, 4) as usize;
     if count > MAX_ENTRIES {
         return Err(10);
@@ -126,8 +146,12 @@ pub fn read(file: &[u8], entry: usize) -> Result<(u32, Range<usize>), u32> {
     }
     let counts = (0..count).map(|k| contents_entry(file, k).1);
     judge_bodies(counts, &file[contents_length(count)..])?;
-    let (place, n) = contents_entry(file, entry);
-    Ok((n, place..place + body_length(n)))
+    let (place, letters) = contents_entry(file, entry);
+    Ok(Body {
+        mark,
+        letters,
+        part: place..place + body_length(letters),
+    })
 }
 
 #[cfg(test)]
@@ -138,7 +162,7 @@ mod tests {
     const COUNTS: [u32; 3] = [6, 0, 2];
     const TREES: [u8; 3] = [0xcd, 0x04, 0x05];
     const FILE: [u8; 35] = [
-        b'L', b'Y', b'N', b'1', 3, 0, 0, 0, // the mark and the count
+        b'L', b'Y', b'N', b'2', 3, 0, 0, 0, // the mark and the count
         32, 0, 0, 0, 6, 0, 0, 0, // banana
         34, 0, 0, 0, 0, 0, 0, 0, // the empty string
         34, 0, 0, 0, 2, 0, 0, 0, // ba
@@ -157,18 +181,32 @@ mod tests {
         let mut file = [0xaa; 35];
         assert_eq!(write(&COUNTS, &TREES, &mut file), Ok(()));
         assert_eq!(file, FILE);
-        assert_eq!(unchecked(&COUNTS, &TREES), FILE);
-        assert_eq!(read(&FILE, 0), Ok((6, 32..34)));
-        assert_eq!(read(&FILE, 1), Ok((0, 34..34)));
-        assert_eq!(read(&FILE, 2), Ok((2, 34..35)));
-        assert_eq!(read(&FILE, 3), Err(5));
-        assert_eq!(read(b"LYN1\0\0\0\0", 0), Err(5));
+        for (mark, last) in [(1, b'1'), (2, b'2')] {
+            let mut file = FILE;
+            file[3] = last;
+            assert_eq!(unchecked(mark, &COUNTS, &TREES), file);
+            for (entry, (letters, part)) in [(6, 32..34), (0, 34..34), (2, 34..35)]
+                .into_iter()
+                .enumerate()
+            {
+                let body = Body {
+                    mark,
+                    letters,
+                    part,
+                };
+                assert_eq!(read(&file, entry), Ok(body));
+            }
+            assert_eq!(read(&file, 3), Err(5));
+            assert_eq!(read(&unchecked(mark, &[], &[]), 0), Err(5));
+        }
     }
 
     #[test]
     fn wrong_files_are_refused() {
         assert_eq!(read(&FILE[..7], 0), Err(9));
-        assert_eq!(refusal(3, b'2'), 9);
+        assert_eq!(refusal(3, b'0'), 9);
+        assert_eq!(refusal(3, b'3'), 9);
+        assert_eq!(refusal(0, b'l'), 9);
         assert_eq!(refusal(4, 65), 10);
         assert_eq!(read(&FILE[..31], 0), Err(11));
         assert_eq!(read(&FILE[..34], 0), Err(11));

@@ -1,11 +1,17 @@
-//! The definitions of document 01, computed as they are written.
+//! The definitions of document 01, computed as they are written. Letters compare by their ranks.
 
+use crate::ranks::{ranks, same};
 use crate::{steps, Figures, Structure, Tables};
 
-/// Whether the suffix at `i` is smaller than the suffix at `j`: a proper prefix is smaller, otherwise
-/// the first differing letter decides. This is the order of slices.
+/// Whether one string is smaller than another: a proper prefix is smaller, otherwise the first differing
+/// letter decides. This is the order of sequences, here of the ranks.
+fn less(left: &[u8], right: &[u8]) -> bool {
+    ranks(left).lt(ranks(right))
+}
+
+/// Whether the suffix at `i` is smaller than the suffix at `j`.
 pub fn suffix_less(letters: &[u8], i: usize, j: usize) -> bool {
-    letters[i..] < letters[j..]
+    less(&letters[i..], &letters[j..])
 }
 
 /// match(i, j): the number of leading letters that the suffixes at `i` and `j` share.
@@ -13,7 +19,7 @@ pub fn suffix_match(letters: &[u8], i: usize, j: usize) -> usize {
     letters[i..]
         .iter()
         .zip(&letters[j..])
-        .take_while(|(a, b)| a == b)
+        .take_while(|(&a, &b)| same(a, b))
         .count()
 }
 
@@ -105,7 +111,7 @@ pub fn build(letters: &[u8], rows: usize) -> Structure {
 
 /// Whether `word` is non-empty and smaller than each of its proper non-empty suffixes.
 pub fn is_lyndon(word: &[u8]) -> bool {
-    !word.is_empty() && (1..word.len()).all(|i| *word < word[i..])
+    !word.is_empty() && (1..word.len()).all(|i| less(word, &word[i..]))
 }
 
 /// The longest Lyndon word that starts at `position`, `position` below n.
@@ -125,12 +131,24 @@ mod tests {
     #[test]
     fn the_length_of_the_longest_lyndon_word_is_next_minus_position() {
         for n in 1..=7 {
-            for letters in strings_over(b"abc", n) {
+            for letters in strings_over(b"aAbc", n) {
                 for i in 0..n {
                     let end = next(&letters, i).unwrap_or(n);
                     assert_eq!(longest_word(&letters, i), &letters[i..end]);
                 }
             }
         }
+    }
+
+    #[test]
+    fn small_letters_compare_as_capitals() {
+        assert!(less(b"a", b"B") && less(b"A", b"b") && less(b"z", b"_"));
+        assert!(less(b"A", b"aA") && less(b"a", b"AA"));
+        assert!(!less(b"a", b"A") && !less(b"A", b"a"));
+        assert_eq!(suffix_match(b"bAnaNa", 1, 3), 3);
+        assert_eq!(longest_word(b"bAnaNa", 1), b"An");
+        // Bytes 91 to 96 are greater than every letter, 123 too.
+        assert_eq!(tree(b"a_", 2), [0x03]);
+        assert_eq!(tree(b"_a", 2), [0x05]);
     }
 }

@@ -1,7 +1,15 @@
 //! A plain Rust build by the same reuse steps, in either order, and the longest Lyndon word, usable at
 //! 1,000,000 letters. The benchmark compares the library with this code.
 
+use crate::ranks::rank;
 use crate::{refusals, Figures, Structure, Tables};
+
+/// Whether two letters have the same rank. Most that do are the same byte; a small letter and its capital
+/// differ in the bit of weight 32 alone.
+#[inline]
+pub(crate) fn equal(left: u8, right: u8) -> bool {
+    left == right || (left ^ right == 32 && (left | 32).is_ascii_lowercase())
+}
 
 /// The latest scanned pair: how far it reaches and how far apart its positions are. And the comparisons
 /// so far that found two letters equal, and unequal.
@@ -25,9 +33,9 @@ impl Window {
         let mut left_is_smaller = false;
         while r + m < letters.len() {
             let (left, right) = (letters[l + m], letters[r + m]);
-            if left != right {
+            if !equal(left, right) {
                 self.unequal += 1;
-                left_is_smaller = (left < right) != REVERSED;
+                left_is_smaller = (rank(left) < rank(right)) != REVERSED;
                 break;
             }
             self.equal += 1;
@@ -221,12 +229,13 @@ pub fn longest_word(letters: &[u8], position: usize) -> &[u8] {
     let mut period = 1;
     for end in 1..suffix.len() {
         let (before, letter) = (suffix[end - period], suffix[end]);
-        if before > letter {
+        if equal(before, letter) {
+            continue;
+        }
+        if rank(before) > rank(letter) {
             break;
         }
-        if before < letter {
-            period = end + 1;
-        }
+        period = end + 1;
     }
     &suffix[..period]
 }
@@ -238,9 +247,19 @@ mod tests {
     use crate::samples::{self, Random};
 
     #[test]
+    fn letters_are_equal_where_their_ranks_are() {
+        for left in 0..=255 {
+            for right in 0..=255 {
+                assert_eq!(equal(left, right), rank(left) == rank(right));
+            }
+        }
+    }
+
+    #[test]
     fn a_build_is_as_defined_for_every_small_string_and_every_row() {
         for n in 0..=7 {
-            for letters in samples::strings_over(b"abc", n) {
+            let strings = samples::strings_over(b"abc", n);
+            for letters in strings.chain(samples::strings_over(b"aAb_", n)) {
                 for rows in 0..=n {
                     assert_eq!(
                         structure(&letters, rows),
@@ -255,7 +274,7 @@ mod tests {
     fn a_build_is_as_defined_for_longer_strings() {
         let mut random = Random::new(2);
         for n in [30, 61, 100] {
-            let strings = [
+            let mut strings = vec![
                 samples::random_string(&mut random, n, 2),
                 samples::random_string(&mut random, n, 256),
                 samples::repeated(b"a", n),
@@ -263,6 +282,8 @@ mod tests {
                 samples::fibonacci(n),
                 samples::thue_morse(n),
             ];
+            let bases = samples::bases(&mut random, n).into_iter();
+            strings.extend(bases.map(|(_, letters)| letters));
             for letters in &strings {
                 for rows in [random.below(n), n] {
                     assert_eq!(structure(letters, rows), definitions::build(letters, rows));
@@ -274,7 +295,8 @@ mod tests {
     #[test]
     fn longest_words_are_as_defined() {
         for n in 1..=7 {
-            for letters in samples::strings_over(b"abc", n) {
+            let strings = samples::strings_over(b"abc", n);
+            for letters in strings.chain(samples::strings_over(b"aAb_", n)) {
                 for i in 0..n {
                     let word = longest_word(&letters, i);
                     assert_eq!(word, definitions::longest_word(&letters, i));

@@ -1,6 +1,7 @@
 //! All runs of a string from its Lyndon roots in both orders, as the library finds them, in plain Rust and
 //! usable at 1,000,000 letters. The benchmark compares the library with this code.
 
+use crate::fast::equal;
 use crate::runs::Run;
 use crate::{fast, refusals};
 
@@ -8,7 +9,7 @@ use crate::{fast, refusals};
 fn left_of(letters: &[u8], i: usize, j: usize) -> usize {
     let most = i.min(j - i + 1);
     let before = letters[i - most..i].iter().zip(&letters[j - most..j]);
-    before.rev().take_while(|(a, b)| a == b).count()
+    before.rev().take_while(|(&a, &b)| equal(a, b)).count()
 }
 
 /// The run with a Lyndon root at `i`, whose next smaller suffix in one of the orders is at `j` and shares
@@ -149,7 +150,8 @@ mod tests {
     #[test]
     fn runs_are_as_defined_for_every_small_string() {
         for n in 0..=8 {
-            for letters in samples::strings_over(b"abc", n) {
+            let strings = samples::strings_over(b"abc", n);
+            for letters in strings.chain(samples::strings_over(b"aAb_", n)) {
                 assert_eq!(runs(&letters), by_definition(&letters));
             }
         }
@@ -159,7 +161,8 @@ mod tests {
     fn runs_are_as_found_period_by_period() {
         let mut random = Random::new(6);
         for n in [100, 1_000, 3_000] {
-            for (kind, letters) in samples::kinds(&mut random, n) {
+            let kinds = samples::kinds(&mut random, n).into_iter();
+            for (kind, letters) in kinds.chain(samples::bases(&mut random, n)) {
                 assert_eq!(runs(&letters), by_periods(&letters), "{kind}");
             }
         }

@@ -1,7 +1,8 @@
 //! A plain Rust reference for the Lyndon structure of a string. It is written from the definitions of
-//! document 01, and of document 02 for the cabinet, the two counts of comparisons and the runs, and
-//! shares no code with the library that it is compared with.
+//! document 01, and of document 02 for the cabinet, the two counts of comparisons, the runs and masked
+//! letters, and shares no code with the library that it is compared with.
 //!
+//! - [`ranks`]: the numbers by which letters compare;
 //! - [`definitions`]: suffixes, tables, tree, reach and Lyndon words, each as defined;
 //! - [`steps`]: the reuse steps 1 to 4, which define the two counts of comparisons;
 //! - [`brackets`]: a tree judged, read and questioned bit by bit;
@@ -19,6 +20,7 @@ pub mod definitions;
 pub mod fast;
 pub mod fast_brackets;
 pub mod fast_runs;
+pub mod ranks;
 pub mod refusals;
 pub mod runs;
 pub mod samples;

@@ -1,6 +1,9 @@
-//! The runs of a string: document 02, T-03. Written twice: by the definition, and period by period.
+//! The runs of a string: document 02, T-03. Written twice: by the definition, and period by period. Letters
+//! are equal where their ranks are.
 
 use std::collections::HashSet;
+
+use crate::ranks::same;
 
 /// A run. The order is that of the report: by start and then by period.
 #[derive(Debug, Clone, Copy, PartialEq, Eq, PartialOrd, Ord)]
@@ -15,7 +18,7 @@ pub struct Run {
 
 /// Whether letters `period` apart are equal inside `part`.
 fn goes_on(part: &[u8], period: usize) -> bool {
-    (period..part.len()).all(|k| part[k - period] == part[k])
+    (period..part.len()).all(|k| same(part[k - period], part[k]))
 }
 
 /// "A run is a start, an end (exclusive) and a period p ≥ 1, with length at least 2 × p. Letters p apart
@@ -62,7 +65,7 @@ pub fn by_periods(letters: &[u8]) -> Vec<Run> {
     for period in 1..=n / 2 {
         let mut start = 0;
         for k in 0..=n - period {
-            if k < n - period && letters[k] == letters[k + period] {
+            if k < n - period && same(letters[k], letters[k + period]) {
                 continue;
             }
             let end = k + period;
@@ -106,17 +109,20 @@ mod tests {
         assert_eq!(members(&by_definition(b"abcb")), [[0; 3]; 0]);
         let mississippi = [[1, 8, 3], [2, 4, 1], [5, 7, 1], [8, 10, 1]];
         assert_eq!(members(&by_definition(b"mississippi")), mississippi);
+        assert_eq!(members(&by_definition(b"MiSsisSIppI")), mississippi);
     }
 
     #[test]
     fn period_by_period_as_defined() {
         for n in 0..=8 {
-            for letters in samples::strings_over(b"abc", n) {
+            let strings = samples::strings_over(b"abc", n);
+            for letters in strings.chain(samples::strings_over(b"aAb", n)) {
                 assert_eq!(by_periods(&letters), by_definition(&letters));
             }
         }
         let mut random = Random::new(5);
-        for (_, letters) in samples::kinds(&mut random, 60) {
+        let kinds = samples::kinds(&mut random, 60).into_iter();
+        for (_, letters) in kinds.chain(samples::bases(&mut random, 60)) {
             assert_eq!(by_periods(&letters), by_definition(&letters));
         }
     }

@@ -125,6 +125,43 @@ pub fn kinds(random: &mut Random, n: usize) -> Vec<(&'static str, Vec<u8>)> {
     ]
 }
 
+/// The same letters, each small or a capital at random.
+pub fn in_random_case(random: &mut Random, letters: &[u8]) -> Vec<u8> {
+    let masked = |letter: &u8| match random.below(2) {
+        0 => letter.to_ascii_uppercase(),
+        _ => letter.to_ascii_lowercase(),
+    };
+    letters.iter().map(masked).collect()
+}
+
+/// The same letters, in turn some hundred of them as capitals and some hundred small, as a genome has them
+/// whose repeats are masked.
+pub fn in_blocks(random: &mut Random, letters: &[u8]) -> Vec<u8> {
+    let mut masked = letters.to_ascii_uppercase();
+    let mut start = 0;
+    loop {
+        start += 100 + random.below(800);
+        let end = start + 100 + random.below(800);
+        let Some(block) = masked.get_mut(start..end) else {
+            return masked;
+        };
+        block.make_ascii_lowercase();
+        start = end;
+    }
+}
+
+/// Named strings of `n` random bases, the letters A, C, G and T, with and without masked ones.
+pub fn bases(random: &mut Random, n: usize) -> Vec<(&'static str, Vec<u8>)> {
+    let capitals: Vec<u8> = (0..n).map(|_| b"ACGT"[random.below(4)]).collect();
+    let in_blocks = in_blocks(random, &capitals);
+    let in_random_case = in_random_case(random, &capitals);
+    vec![
+        ("bases, capitals", capitals),
+        ("bases, mixed case in blocks", in_blocks),
+        ("bases, mixed case at random", in_random_case),
+    ]
+}
+
 /// A random balanced tree of `n` positions. Where both brackets are possible, it opens with a
 /// probability of `openings` in 10.
 pub fn random_tree(random: &mut Random, n: usize, openings: usize) -> Vec<u8> {
@@ -172,6 +209,33 @@ mod tests {
         assert_eq!(one_root_over_leaves(1), [0b01]);
         assert_eq!(one_root_over_leaves(4), [0b0010_1011]);
         assert_eq!(one_root_over_leaves(5), [0b1010_1011, 0b00]);
+    }
+
+    #[test]
+    fn masked_letters_are_the_same_but_for_their_case() {
+        let mut random = Random::new(1);
+        let every_byte: Vec<u8> = (0..=255).cycle().take(5_000).collect();
+        for masked in [
+            in_random_case(&mut random, &every_byte),
+            in_blocks(&mut random, &every_byte),
+        ] {
+            assert!(masked.eq_ignore_ascii_case(&every_byte));
+            assert!(masked.iter().any(u8::is_ascii_lowercase));
+            assert!(masked.iter().any(u8::is_ascii_uppercase));
+        }
+        let [capitals, in_blocks, at_random] = &bases(&mut random, 5_000)[..] else {
+            panic!("three strings");
+        };
+        assert!(capitals.1.iter().all(|letter| b"ACGT".contains(letter)));
+        let changes = |letters: &[u8]| {
+            let pairs = letters.windows(2);
+            let changes =
+                pairs.filter(|pair| pair[0].is_ascii_lowercase() != pair[1].is_ascii_lowercase());
+            changes.count()
+        };
+        assert_eq!(changes(&capitals.1), 0);
+        assert!((5..50).contains(&changes(&in_blocks.1)));
+        assert!(changes(&at_random.1) > 2_000);
     }
 
     #[test]

@@ -1,5 +1,6 @@
-//! The reuse steps of document 01, written step by step.
+//! The reuse steps of document 01, written step by step. Letters compare by their ranks.
 
+use crate::ranks::rank;
 use crate::Tables;
 
 /// What the steps have written, and what they count.
@@ -123,9 +124,10 @@ impl Steps {
     fn scan(&mut self, letters: &[u8], l: usize, r: usize, mut m: usize) -> Settled {
         let mut left_is_smaller = false;
         while r + m < letters.len() {
-            if letters[l + m] != letters[r + m] {
+            let (left, right) = (rank(letters[l + m]), rank(letters[r + m]));
+            if left != right {
                 self.unequal += 1;
-                left_is_smaller = letters[l + m] < letters[r + m];
+                left_is_smaller = left < right;
                 break;
             }
             self.equal += 1;
@@ -149,7 +151,7 @@ mod tests {
     #[test]
     fn the_steps_write_the_defined_tables_and_reach() {
         for n in 0..=7 {
-            for letters in strings_over(b"abc", n) {
+            for letters in strings_over(b"aAb_", n) {
                 for rows in 0..=n {
                     let steps = run(&letters, rows);
                     assert_eq!(steps.tables(), definitions::tables(&letters, rows));
