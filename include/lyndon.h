@@ -1,7 +1,9 @@
 /* The Lyndon structure of a string: nearest smaller suffixes, their matches, and the bracket tree; and all its runs.
  *
- * A string has n letters of one byte each, n from 0 to 1,000,000. Letters compare by their unsigned value. A proper prefix is
- * smaller than the longer string. Positions count from 0. 'None' is written n.
+ * A string has n letters of one byte each, n from 0 to 1,000,000. Letters compare by their unsigned value, but small letters, bytes
+ * 97 to 122, as the capitals, 65 to 90: a masked letter counts as the same letter. So A and a are equal, here and everywhere below,
+ * and the answers for a string are those for the same string in capitals. A proper prefix is smaller than the longer string.
+ * Positions count from 0. 'None' is written n.
  *
  *   match(i, j)        the number of leading letters that the suffixes at i and j share
  *   previous[i]        the greatest j < i whose suffix is smaller than the suffix at i
@@ -23,10 +25,15 @@
  *
  * A cabinet is a file of many trees. Each number in it has 32 bits, the lowest byte first:
  *
- *   the four bytes LYN1
+ *   the mark: the four bytes LYN2, or LYN1
  *   the number of entries, 0 to 64
  *   for each entry the place of its tree from the file's first byte, and its letter count n
  *   the trees, in the order of their entries and without gaps
+ *
+ * The mark says by which order of letters the trees were built. LYN2: the order above. LYN1, the mark of files written before version
+ * 3 of this header: the plain order of the bytes' values, in which A is smaller than a. The two orders give a string other trees only
+ * where it has both a small letter and a byte from 65 to 96, which is a capital or one of [ \ ] ^ _ `. A tree by itself does not say
+ * its order: one that was built before version 3 has the plain one. docs/FORMAT.md of the repository says more.
  *
  * Refusals. No caller has to test anything first: each function takes every value of every number and every length, and answers
  * with a refusal where the rules ask for one, else with 0. Where several apply, the lowest number is returned, except by the
@@ -59,7 +66,7 @@ extern "C" {
 /* The version of this header: it rises when a function is added, and with every change of a structure or a function, of what it
  * answers too. A program whose LYNDON_VERSION is not what lyndon_version() returns was compiled against another header than the
  * archive's, and is to be compiled again. */
-#define LYNDON_VERSION 2
+#define LYNDON_VERSION 3
 
 /* The version of the archive. */
 uint32_t lyndon_version(void);
@@ -86,7 +93,7 @@ typedef enum LyndonRefusal {
     LYNDON_SPARE_BIT_SET = 6,         /* a spare bit of the tree is 1 */
     LYNDON_CLOSED_TOO_EARLY = 7,      /* some first bits of the 2n hold more closings than openings */
     LYNDON_LEFT_OPEN = 8,             /* no such place, but not all brackets are closed */
-    LYNDON_NOT_MARKED = 9,            /* a cabinet file under 8 bytes or with another mark than LYN1 */
+    LYNDON_NOT_MARKED = 9,            /* a cabinet file under 8 bytes or with neither of the marks LYN1 and LYN2 */
     LYNDON_TOO_MANY_ENTRIES = 10,     /* a cabinet with more than 64 entries */
     LYNDON_WRONG_CONTENTS = 11,       /* a cabinet file whose contents are cut short, with a place that is not the end of what
                                          comes before it, with bytes missing or left over at the end, or with a letter count above
@@ -123,6 +130,7 @@ typedef struct LyndonPartReply {
 /* A tree in a cabinet file. */
 typedef struct LyndonCabinetReply {
     uint32_t refusal; /* 0, or 5 to 11 */
+    uint32_t mark;    /* the file's mark, which says by which order its trees were built: 1 for LYN1, 2 for LYN2; 0 where refused */
     uint32_t letters; /* the tree's letter count n; 0 where refused */
     size_t start;     /* where the tree starts in the file; 0 where refused */
     size_t length;    /* its length in bytes; 0 where refused */
@@ -166,8 +174,8 @@ LyndonReply lyndon_next(size_t n, const uint8_t *tree, size_t tree_length, size_
  * Refusals: 1, 3, 5, 6, 7, 8. Memory: nothing is written. */
 LyndonReply lyndon_place(size_t n, const uint8_t *tree, size_t tree_length, size_t position);
 
-/* The longest Lyndon word that starts at `position`: it starts there, and its length is next[position] - position.
- * n is letters_length.
+/* The longest Lyndon word that starts at `position`: it starts there, and its length is next[position] - position. The part is that
+ * of the caller's own letters, small ones and capitals as they stand. n is letters_length.
  * Refusals: 1, 5; the part is then the empty one at the string's start. Memory: nothing is written. */
 LyndonPartReply lyndon_word(const uint8_t *letters, size_t letters_length, size_t position);
 
@@ -193,7 +201,11 @@ LyndonReply lyndon_runs(const uint8_t *letters, size_t letters_length,
                         uint32_t *work_6, size_t work_6_length);
 
 /* Writes the cabinet file of the trees with the letter counts `counts`. `trees` holds them end to end. `file` has exactly the
- * file's length: 8 bytes, and for each count n 8 and ceil(n / 4) bytes. Returns the refusal, or 0.
+ * file's length: 8 bytes, and for each count n 8 and ceil(n / 4) bytes. Its mark is LYN2. Returns the refusal, or 0.
+ *
+ * Nothing can test by which order a tree was built. A tree that was built before version 3, as those of a LYN1 file were, is to be
+ * written here only where its string has no small letter, or has none of the bytes 65 to 96: else the mark would tell the wrong
+ * order. Such a string is built anew, or its LYN1 file kept as it is.
  *
  * Refusals, in the order in which they are tested: 10, 1, 3 (for the trees or the file), then 6, 7, 8 tree by tree, so that the
  * first faulty tree decides.
@@ -203,7 +215,8 @@ uint32_t lyndon_cabinet_write(const uint32_t *counts, size_t counts_length,
                               uint8_t *file, size_t file_length);
 
 /* Checks the whole cabinet file, whichever entry is asked for, and gives the tree of `entry` as a part of the file. Entries count
- * from 0. The part starts at the place that the contents give.
+ * from 0. The part starts at the place that the contents give. Files of both marks are read, and the reply says which mark it is;
+ * what is read from a LYN2 file, written again, is the same file.
  *
  * Refusals, in the order in which they are tested: 9, 10, 11, 5, then 6, 7, 8 tree by tree, so that the first faulty tree decides.
  * The part is then the empty one at the file's start. Memory: nothing is written. */

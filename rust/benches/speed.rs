@@ -172,11 +172,18 @@ fn print_head(columns: &str) {
     println!("\n| {columns} |\n|{line}");
 }
 
+/// The kinds of strings, and bases with and without masked ones.
+fn kinds_for_builds(random: &mut Random, n: usize) -> Vec<(&'static str, Vec<u8>)> {
+    let mut kinds = samples::kinds(random, n);
+    kinds.extend(samples::bases(random, n));
+    kinds
+}
+
 fn compare_builds() {
     println!("\nBuilds of {LETTERS} letters, {BUILD_ROUNDS} rounds.");
     print_head(&format!("letters | {}", Comparison::COLUMNS));
     let mut buffers = Buffers::new(LETTERS);
-    for (kind, letters) in samples::kinds(&mut Random::new(41), LETTERS) {
+    for (kind, letters) in kinds_for_builds(&mut Random::new(41), LETTERS) {
         let comparison = Comparison::run(
             BUILD_ROUNDS,
             &mut buffers,
@@ -204,7 +211,7 @@ fn costs(n: usize) -> Vec<(&'static str, String)> {
         let [equal, unequal] = counts.map(|count| count as f64 / n as f64);
         format!("{:.1} | {equal:.2} | {unequal:.2}", times.median())
     };
-    let kinds = samples::kinds(&mut Random::new(42), n).into_iter();
+    let kinds = kinds_for_builds(&mut Random::new(42), n).into_iter();
     kinds
         .map(|(kind, letters)| (kind, cost(&letters)))
         .collect()
@@ -259,7 +266,8 @@ impl RunsBuffers {
 }
 
 /// The kinds of strings, and more for the runs: on squares the report moves the most entries, on the ruler
-/// it compares the most letters for no run at all. Fibonacci has the most comparisons.
+/// it compares the most letters for no run at all. Fibonacci has the most comparisons. The last are bases in
+/// mixed case at random.
 fn kinds_for_runs(random: &mut Random, n: usize) -> Vec<(&'static str, Vec<u8>)> {
     let mut kinds = samples::kinds(random, n);
     kinds.extend([
@@ -267,6 +275,7 @@ fn kinds_for_runs(random: &mut Random, n: usize) -> Vec<(&'static str, Vec<u8>)>
         ("squares", samples::squares(n)),
         ("ruler", samples::ruler(n)),
     ]);
+    kinds.extend(samples::bases(random, n).pop());
     kinds
 }
 
@@ -385,11 +394,11 @@ fn compare_cabinets(trees: &[(&str, Vec<u8>)]) {
             &mut (),
             |()| {
                 let entry = lyndon::cabinet_read(black_box(&file), black_box(last)).ok();
-                entry.map(|entry| (entry.letters, entry.tree))
+                entry.map(|entry| (entry.mark.number(), entry.letters, entry.tree))
             },
             |()| {
                 let entry = cabinet::read(black_box(&file), black_box(last)).ok();
-                entry.map(|(letters, part)| (letters as usize, &file[part]))
+                entry.map(|body| (body.mark, body.letters as usize, &file[body.part]))
             },
         );
         println!("| {name} | read | {} |", reading.row());

@@ -7,10 +7,12 @@
 //! answered, by a value or by a [`Refusal`], and a refusal writes nothing to the lent memory, but for
 //! [`Refusal::TooManyRuns`], which clears the work memory of [`runs_into`].
 //!
-//! A string has at most [`MAX_LETTERS`] letters of one byte, which compare by their unsigned value. A
-//! proper prefix is smaller than the longer string. Positions count from 0. 'None' is written n, the
-//! number of letters. The match of two positions is the number of leading letters that the suffixes
-//! there share.
+//! A string has at most [`MAX_LETTERS`] letters of one byte, which compare by their unsigned value, but
+//! small letters, bytes 97 to 122, as the capitals, 65 to 90: a masked letter counts as the same letter.
+//! So `A` and `a` are equal, here and everywhere below, and the answers for a string are those for the
+//! same string in capitals. A proper prefix is smaller than the longer string. Positions count from 0.
+//! 'None' is written n, the number of letters. The match of two positions is the number of leading letters
+//! that the suffixes there share.
 //!
 //! A question ([`previous()`], [`next()`], [`place`]) judges the whole tree each time, which takes some 0.1
 //! to 0.3 ms at 1,000,000 positions; [`read`] gives all entries in 2 to 9 ms. For one position ask; for
@@ -34,6 +36,10 @@
 //!
 //! assert_eq!(lyndon::longest_word(b"banana", 1)?, b"an");
 //! assert_eq!(lyndon::runs(b"banana")?, [lyndon::Run { start: 1, end: 6, period: 2 }]);
+//!
+//! // Masked letters count as the same, and a word is a part of the string as it stands.
+//! assert_eq!(Structure::of(b"baNAna")?, Structure::of(b"banana")?);
+//! assert_eq!(lyndon::longest_word(b"baNAna", 1)?, b"aN");
 //! # Ok::<(), lyndon::Refusal>(())
 //! ```
 
@@ -86,7 +92,7 @@ pub enum Refusal {
     ClosedTooEarly = 7,
     /// 8: no such place, but not all are closed.
     LeftOpen = 8,
-    /// 9: a cabinet file under 8 bytes or with another mark than `LYN1`.
+    /// 9: a cabinet file under 8 bytes or with neither of the marks `LYN1` and `LYN2`.
     NotMarked = 9,
     /// 10: a cabinet with a count above 64.
     TooManyEntries = 10,
@@ -153,7 +159,9 @@ impl fmt::Display for Refusal {
             Refusal::SpareBitSet => "a spare bit of the tree is 1",
             Refusal::ClosedTooEarly => "the tree closes a bracket that is not open",
             Refusal::LeftOpen => "the tree leaves a bracket open",
-            Refusal::NotMarked => "the file has under 8 bytes or another mark than LYN1",
+            Refusal::NotMarked => {
+                "the file has under 8 bytes or neither of the marks LYN1 and LYN2"
+            }
             Refusal::TooManyEntries => "more than 64 entries",
             Refusal::WrongContents => {
                 "the file's contents are cut short, do not fit its length or each other, \
@@ -299,7 +307,8 @@ pub fn place(n: usize, tree: &[u8], position: usize) -> Result<usize, Refusal> {
     Refusal::check(reply.refusal).map(|()| reply.value)
 }
 
-/// The longest Lyndon word that starts at `position`, as a part of `letters` itself.
+/// The longest Lyndon word that starts at `position`, as a part of `letters` itself, its small letters and
+/// capitals as they stand.
 ///
 /// # Errors
 ///
@@ -426,7 +435,7 @@ pub fn cabinet_length(counts: &[u32]) -> usize {
 /// `trees` holds the trees end to end, in the order of their letter counts. `file` has
 /// [`cabinet_length`]`(counts)` bytes. All of them are written, whatever they held before:
 ///
-/// - the four bytes `LYN1`;
+/// - the four bytes `LYN2`;
 /// - the number of entries; each number in the file has 32 bits, the lowest byte first;
 /// - for each entry the place of its tree from the file's first byte, and its letter count;
 /// - the trees.
@@ -436,14 +445,20 @@ pub fn cabinet_length(counts: &[u32]) -> usize {
 /// let trees = [lyndon::Structure::of(b"banana")?.tree, lyndon::Structure::of(b"ba")?.tree].concat();
 /// let mut file = vec![0; lyndon::cabinet_length(&counts)];
 /// lyndon::cabinet_write(&counts, &trees, &mut file)?;
-/// assert_eq!(file[..16], *b"LYN1\x02\0\0\0\x18\0\0\0\x06\0\0\0");
+/// assert_eq!(file[..16], *b"LYN2\x02\0\0\0\x18\0\0\0\x06\0\0\0");
 /// assert_eq!(file[16..], *b"\x1a\0\0\0\x02\0\0\0\xcd\x04\x05");
 ///
 /// let banana = lyndon::cabinet_read(&file, 0)?;
 /// assert_eq!((banana.letters, banana.tree), (6, &file[24..26]));
+/// assert_eq!(banana.mark, lyndon::Mark::Lyn2);
 /// assert_eq!(lyndon::next(banana.letters, banana.tree, 1)?, 3);
 /// # Ok::<(), lyndon::Refusal>(())
 /// ```
+///
+/// Nothing can test by which order of letters a tree was built. One that was built before version 3 of
+/// the library, as those of a file marked [`Mark::Lyn1`] were, is to be written here only where its string
+/// has no small letter, or has none of the bytes 65 to 96: else the mark would tell the wrong order. Such a
+/// string is built anew, or its file kept as it is.
 ///
 /// # Errors
 ///
@@ -464,9 +479,41 @@ pub fn cabinet_write(counts: &[u32], trees: &[u8], file: &mut [u8]) -> Result<()
     Refusal::check(number)
 }
 
+/// The four bytes that a cabinet file begins with. They say by which order of letters its trees were built.
+///
+/// The two orders give a string other trees only where it has both a small letter and a byte from 65 to 96,
+/// which is a capital or one of ``[ \ ] ^ _ ` ``. `docs/FORMAT.md` of the repository says more.
+#[derive(Debug, Clone, Copy, PartialEq, Eq, Hash)]
+#[repr(u32)]
+pub enum Mark {
+    /// 1: `LYN1`, of files written before version 3 of the library. Letters compared by their unsigned value,
+    /// so that `A` was smaller than `a`.
+    Lyn1 = 1,
+    /// 2: `LYN2`, which [`cabinet_write`] writes. Small letters compare as capitals.
+    Lyn2 = 2,
+}
+
+impl Mark {
+    /// The mark's number, 1 or 2.
+    pub fn number(self) -> u32 {
+        self as u32
+    }
+
+    /// The mark that a reply's number stands for.
+    fn of(number: u32) -> Mark {
+        match number {
+            1 => Mark::Lyn1,
+            2 => Mark::Lyn2,
+            _ => panic!("liblyndon.a returned the unknown mark {number}"),
+        }
+    }
+}
+
 /// One tree of a cabinet file.
 #[derive(Debug, Clone, Copy, PartialEq, Eq, Hash)]
 pub struct CabinetEntry<'a> {
+    /// The mark of the file, which says by which order of letters the tree was built.
+    pub mark: Mark,
     /// The letter count: the n that [`read`] and the questions take beside the tree.
     pub letters: usize,
     /// The tree, as a part of the file itself.
@@ -474,7 +521,8 @@ pub struct CabinetEntry<'a> {
 }
 
 /// Checks a whole cabinet file, whichever entry is asked for, and gives the tree of `entry`, which
-/// starts at the place that the contents give. Entries count from 0.
+/// starts at the place that the contents give. Entries count from 0. Files of both marks are read; what is
+/// read from a `LYN2` file, written again, is the same file.
 ///
 /// # Errors
 ///
@@ -484,6 +532,7 @@ pub fn cabinet_read(file: &[u8], entry: usize) -> Result<CabinetEntry<'_>, Refus
     // SAFETY: the pointer comes from a slice with its length.
     let reply = unsafe { raw::lyndon_cabinet_read(file.as_ptr(), file.len(), entry) };
     Refusal::check(reply.refusal).map(|()| CabinetEntry {
+        mark: Mark::of(reply.mark),
         letters: reply.letters as usize,
         tree: &file[reply.start..][..reply.length],
     })

@@ -2,7 +2,7 @@
 //! length. `include/lyndon.h` declares the same.
 
 /// The version of these declarations, `LYNDON_VERSION` in the header. [`lyndon_version`] returns that of the archive.
-pub const VERSION: u32 = 2;
+pub const VERSION: u32 = 3;
 
 /// The answer of [`lyndon_build`].
 #[repr(C)]
@@ -50,6 +50,8 @@ pub struct PartReply {
 pub struct CabinetReply {
     /// The refusal's number, 0 where not refused.
     pub refusal: u32,
+    /// The mark that the file begins with: 1 for `LYN1`, 2 for `LYN2`, 0 where refused. See [`Mark`](crate::Mark).
+    pub mark: u32,
     /// The tree's letter count, 0 where refused.
     pub letters: u32,
     /// Where the tree starts in the file, 0 where refused.
@@ -186,7 +188,7 @@ extern "C" {
     /// As for [`lyndon_previous`].
     pub fn lyndon_place(n: usize, tree: *const u8, tree_length: usize, position: usize) -> Reply;
 
-    /// The longest Lyndon word at a position.
+    /// The longest Lyndon word at a position, as a part of the caller's own letters.
     ///
     /// # Safety
     ///
@@ -221,7 +223,7 @@ extern "C" {
         work_6_length: usize,
     ) -> Reply;
 
-    /// Writes a cabinet file. Returns the refusal's number, 0 where written.
+    /// Writes a cabinet file, with the mark `LYN2`. Returns the refusal's number, 0 where written.
     ///
     /// # Safety
     ///
@@ -235,7 +237,7 @@ extern "C" {
         file_length: usize,
     ) -> u32;
 
-    /// Checks a whole cabinet file and finds the tree of one entry.
+    /// Checks a whole cabinet file, of either mark, and finds the tree of one entry.
     ///
     /// # Safety
     ///

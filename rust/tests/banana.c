@@ -43,7 +43,14 @@ static int tree_agrees(size_t i)
         && k.refusal == 0 && (tree[k.value / 8] >> (k.value % 8) & 1) == 1;
 }
 
-/* Whether a cabinet of an empty tree and of the tree gives both back, and no third one. */
+/* Whether a reply of a reading is a refusal and no other figure. */
+static int is_refused(LyndonCabinetReply reply, uint32_t refusal)
+{
+    return reply.refusal == refusal && reply.mark == 0 && reply.letters == 0 && reply.start == 0 && reply.length == 0;
+}
+
+/* Whether a cabinet of an empty tree and of the tree gives both back, and no third one; and so with the mark LYN1, but not with
+ * LYN3. */
 static int cabinet_agrees(void)
 {
     static const uint32_t counts[ENTRIES] = {0, N};
@@ -51,11 +58,42 @@ static int cabinet_agrees(void)
     LyndonCabinetReply empty = lyndon_cabinet_read(file, FILE_LENGTH, 0);
     LyndonCabinetReply banana = lyndon_cabinet_read(file, FILE_LENGTH, 1);
     LyndonCabinetReply none = lyndon_cabinet_read(file, FILE_LENGTH, ENTRIES);
-    return refusal == 0
-        && empty.refusal == 0 && empty.letters == 0 && empty.length == 0
-        && banana.refusal == 0 && banana.letters == N && banana.length == TREE_LENGTH
+    LyndonCabinetReply marked_1, marked_3;
+    int is_marked_2 = memcmp(file, "LYN2", 4) == 0;
+    file[3] = '1';
+    marked_1 = lyndon_cabinet_read(file, FILE_LENGTH, 1);
+    file[3] = '3';
+    marked_3 = lyndon_cabinet_read(file, FILE_LENGTH, 1);
+    return refusal == 0 && is_marked_2
+        && empty.refusal == 0 && empty.mark == 2 && empty.letters == 0 && empty.length == 0
+        && banana.refusal == 0 && banana.mark == 2 && banana.letters == N && banana.length == TREE_LENGTH
         && memcmp(file + banana.start, tree, TREE_LENGTH) == 0
-        && none.refusal == LYNDON_POSITION_OUTSIDE && none.letters == 0 && none.start == 0 && none.length == 0;
+        && is_refused(none, LYNDON_POSITION_OUTSIDE)
+        && marked_1.refusal == 0 && marked_1.mark == 1 && marked_1.letters == N
+        && marked_1.start == banana.start && marked_1.length == TREE_LENGTH
+        && is_refused(marked_3, LYNDON_NOT_MARKED);
+}
+
+/* Whether banana with masked letters has the tables and the tree of banana, and the same longest words. */
+static int masked_agrees(void)
+{
+    static const uint8_t masked[N] = {'b', 'A', 'N', 'a', 'n', 'A'};
+    static uint32_t tables[4][N];
+    static uint8_t brackets[TREE_LENGTH];
+    LyndonBuildReply built = lyndon_build(masked, N, N, tables[0], N, tables[1], N, tables[2], N, tables[3], N,
+                                          brackets, TREE_LENGTH);
+    size_t i;
+    for (i = 0; i < N; i++) {
+        LyndonPartReply word = lyndon_word(masked, N, i);
+        if (word.refusal != 0 || word.start != i || word.length != next[i] - i) {
+            return 0;
+        }
+    }
+    return built.refusal == 0 && built.equal == 3 && built.unequal == 3 && built.reach == 6
+        && memcmp(tables[0], previous, sizeof previous) == 0 && memcmp(tables[1], next, sizeof next) == 0
+        && memcmp(tables[2], previous_match, sizeof previous_match) == 0
+        && memcmp(tables[3], next_match, sizeof next_match) == 0
+        && memcmp(brackets, tree, TREE_LENGTH) == 0;
 }
 
 static uint32_t starts[N - 1], ends[N - 1], periods[N - 1], work[6][N];
@@ -119,6 +157,9 @@ int main(void)
     }
     if (lyndon_previous(N, tree, TREE_LENGTH, N).refusal != LYNDON_POSITION_OUTSIDE) {
         return failed("a position outside the tree");
+    }
+    if (!masked_agrees()) {
+        return failed("banana with masked letters");
     }
     if (!cabinet_agrees()) {
         return failed("the cabinet and the tree differ");

@@ -1,6 +1,7 @@
 //! C and C++ programs that include the header and link the archive.
 
 use std::fmt::Write;
+use std::mem::{offset_of, size_of};
 use std::path::{Path, PathBuf};
 use std::process::{Command, Output};
 
@@ -88,8 +89,23 @@ fn c_name(refusal: Refusal) -> String {
     name
 }
 
+/// The lines that tests/header.c prints of a structure of the wrapper: where its members are, and its size.
+macro_rules! layout {
+    ($structure:ident: $($member:ident)*) => {{
+        let name = concat!("Lyndon", stringify!($structure));
+        let mut lines = String::new();
+        $(
+            let at = offset_of!(raw::$structure, $member);
+            let member = stringify!($member);
+            writeln!(lines, "offsetof({name}, {member}) {at}").expect("a string");
+        )*
+        writeln!(lines, "sizeof({name}) {}", size_of::<raw::$structure>()).expect("a string");
+        lines
+    }};
+}
+
 #[test]
-fn the_constants_are_those_of_the_wrapper() {
+fn the_constants_and_structures_are_those_of_the_wrapper() {
     let mut expected = format!(
         "LYNDON_VERSION {}\nLYNDON_MAX_LETTERS {}\nLYNDON_MAX_ENTRIES {}\nLYNDON_NOT_REFUSED 0\n",
         raw::VERSION,
@@ -105,6 +121,10 @@ fn the_constants_are_those_of_the_wrapper() {
     }
     let buffers = lyndon::tree_length(7) + lyndon::cabinet_length(&[6, 2]);
     writeln!(expected, "sizeof(struct buffers) {buffers}").expect("a string");
+    expected += &layout!(BuildReply: refusal finished rows equal unequal reach);
+    expected += &layout!(Reply: refusal value);
+    expected += &layout!(PartReply: refusal start length);
+    expected += &layout!(CabinetReply: refusal mark letters start length);
     assert_eq!(printed(compile("header.c", "c99")), expected);
     assert_eq!(printed(compile("header.c", "c++98")), expected);
 }

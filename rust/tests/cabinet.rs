@@ -1,15 +1,18 @@
-//! Cabinet files: written, read, damaged and refused, against the reference.
+//! Cabinet files of both marks: written, read, damaged and refused, against the reference.
 
 mod common;
 
 use std::collections::BTreeSet;
 
 use common::{assert_list, Guarded, FILLS};
-use lyndon::{cabinet_length, raw, tree_length, Refusal, MAX_ENTRIES};
-use reference::cabinet;
+use lyndon::{cabinet_length, raw, tree_length, Mark, Refusal, MAX_ENTRIES};
+use reference::cabinet::{self, Body};
 use reference::samples::{random_string, random_tree, Random};
 
 const LIMIT: u32 = 1_000_000;
+
+/// The marks' numbers.
+const MARKS: [u32; 2] = [1, 2];
 
 /// Letter counts of small files. Of the trees some fill their last byte and some leave spare bits.
 const SMALL: [&[u32]; 8] = [
@@ -32,9 +35,15 @@ fn random_trees(random: &mut Random, counts: &[u32]) -> Vec<u8> {
     counts.iter().flat_map(tree).collect()
 }
 
-/// A file of random trees with these letter counts.
-fn random_file(random: &mut Random, counts: &[u32]) -> Vec<u8> {
-    cabinet::unchecked(counts, &random_trees(random, counts))
+/// A file of random trees with this mark and these letter counts.
+fn random_file(random: &mut Random, mark: u32, counts: &[u32]) -> Vec<u8> {
+    cabinet::unchecked(mark, counts, &random_trees(random, counts))
+}
+
+/// Each of the small letter counts with each mark.
+fn small_files() -> impl Iterator<Item = (u32, &'static [u32])> {
+    let both = |counts| MARKS.map(|mark| (mark, counts));
+    SMALL.into_iter().flat_map(both)
 }
 
 /// At most 64 letter counts, often few and often small or 0.
@@ -71,14 +80,23 @@ fn check_writing(counts: &[u32], trees: &[u8], length: usize) -> Result<Vec<u8>,
 /// Returns the refusal's number, 0 where not refused.
 fn check_reading(file: &[u8], entry: usize) -> u32 {
     let expected = cabinet::read(file, entry);
-    let (letters, part) = expected.clone().unwrap_or((0, 0..0));
-    let refusal = expected.err().unwrap_or(0);
+    let refusal = expected.as_ref().err().copied().unwrap_or(0);
+    let Body {
+        mark,
+        letters,
+        part,
+    } = expected.unwrap_or(Body {
+        mark: 0,
+        letters: 0,
+        part: 0..0,
+    });
     let input = format_args!("entry {entry} of {:?}", &file[..file.len().min(80)]);
 
     // SAFETY: the pointer comes from a slice with its length.
     let reply = unsafe { raw::lyndon_cabinet_read(file.as_ptr(), file.len(), entry) };
     let expected_reply = raw::CabinetReply {
         refusal,
+        mark,
         letters,
         start: part.start,
         length: part.len(),
@@ -89,6 +107,7 @@ fn check_reading(file: &[u8], entry: usize) -> u32 {
         Err(given) => assert_eq!(given.number(), refusal, "{input}"),
         Ok(found) => {
             assert_eq!((found.letters, refusal), (letters as usize, 0), "{input}");
+            assert_eq!(found.mark.number(), mark, "{input}");
             let expected_part = file[part].as_ptr_range();
             assert_eq!(found.tree.as_ptr_range(), expected_part, "{input}");
         }
@@ -110,7 +129,7 @@ fn check_file(file: &[u8], count: usize) -> BTreeSet<u32> {
     numbers
 }
 
-/// Asserts that what is read from the file, written again, is the same file.
+/// Asserts that what is read from the file, written again, is the same file with the mark `LYN2`.
 fn assert_written_again(file: &[u8]) {
     let (mut counts, mut trees) = (Vec::new(), Vec::new());
     while let Ok(entry) = lyndon::cabinet_read(file, counts.len()) {
@@ -119,7 +138,8 @@ fn assert_written_again(file: &[u8]) {
     }
     let mut again = vec![0; cabinet_length(&counts)];
     assert_eq!(lyndon::cabinet_write(&counts, &trees, &mut again), Ok(()));
-    assert_list("the file written again", &again, file);
+    let expected = [b"LYN2", &file[4..]].concat();
+    assert_list("the file written again", &again, &expected);
 }
 
 /// Asserts that the trees are written, and each entry of their file is read.
@@ -132,8 +152,10 @@ fn assert_taken(counts: &[u32], trees: &[u8]) {
 fn assert_refused(counts: &[u32], trees: &[u8], writing: u32, reading: u32) {
     let outcome = check_writing(counts, trees, cabinet_length(counts));
     assert_eq!(outcome, Err(writing));
-    let file = cabinet::unchecked(counts, trees);
-    assert_eq!(check_file(&file, counts.len()), BTreeSet::from([reading]));
+    for mark in MARKS {
+        let file = cabinet::unchecked(mark, counts, trees);
+        assert_eq!(check_file(&file, counts.len()), BTreeSet::from([reading]));
+    }
 }
 
 /// Asserts that the trees are written, that each is read back, and that the file has no other entry.
@@ -145,6 +167,7 @@ fn assert_read_back(counts: &[u32], trees: &[u8]) {
         rest = after;
         let found = lyndon::cabinet_read(&file, entry).expect("an entry of an accepted file");
         assert_eq!((found.letters, found.tree), (n as usize, tree));
+        assert_eq!(found.mark, Mark::Lyn2);
         let place: [u8; 4] = file[8 + 8 * entry..][..4].try_into().expect("four bytes");
         let place = u32::from_le_bytes(place) as usize;
         assert_eq!(found.tree.as_ptr(), file[place..].as_ptr());
@@ -172,8 +195,74 @@ fn trees_are_written_and_read_back() {
 #[test]
 fn a_file_without_entries() {
     let file = check_writing(&[], &[], 8).expect("no tree");
-    assert_eq!(file, b"LYN1\0\0\0\0");
+    assert_eq!(file, b"LYN2\0\0\0\0");
     assert_eq!(check_file(&file, 0), BTreeSet::from([5]));
+    assert_eq!(check_file(b"LYN1\0\0\0\0", 0), BTreeSet::from([5]));
+}
+
+/// The file of banana and of `ba` byte by byte, with each mark.
+#[test]
+fn both_marks_are_read_and_told_apart() {
+    let behind_the_mark = b"\x02\0\0\0\x18\0\0\0\x06\0\0\0\x1a\0\0\0\x02\0\0\0\xcd\x04\x05";
+    let files = [b"LYN1", b"LYN2"].map(|mark| [&mark[..], behind_the_mark].concat());
+    for (file, mark) in files.iter().zip([Mark::Lyn1, Mark::Lyn2]) {
+        let banana = lyndon::cabinet_read(file, 0).expect("a file with a mark");
+        assert_eq!(
+            (banana.mark, banana.letters, banana.tree),
+            (mark, 6, &file[24..26])
+        );
+        let ba = lyndon::cabinet_read(file, 1).expect("a file with a mark");
+        assert_eq!((ba.mark, ba.letters, ba.tree), (mark, 2, &file[26..]));
+        assert_eq!(check_file(file, 2), BTreeSet::from([0, 5]));
+    }
+    // The trees of the file with the first mark, written again, make the one with the second.
+    let written = check_writing(&[6, 2], &files[0][24..], 27);
+    assert_eq!(written.as_ref(), Ok(&files[1]));
+    assert_eq!([Mark::Lyn1, Mark::Lyn2].map(Mark::number), MARKS);
+}
+
+#[test]
+fn marks_that_are_no_marks() {
+    let mut random = Random::new(61);
+    let file = random_file(&mut random, 2, &[5, 0, 6]);
+    for mark in [
+        b"LYN0",
+        b"LYN3",
+        b"LYN\0",
+        b"LYN\x01",
+        b"LYN\x02",
+        b"LYN\xb1",
+        b"LYN\xb2",
+        b"LYN ",
+        b"lyn1",
+        b"lyn2",
+        b"lYN2",
+        b"LyN2",
+        b"LYn2",
+        b"LYN!",
+        b"1NYL",
+        b"2NYL",
+        b"NYL2",
+        b"YLN2",
+        b"\0\0\0\0",
+        b"\xff\xff\xff\xff",
+    ] {
+        let marked = [mark, &file[4..]].concat();
+        assert_eq!(check_file(&marked, 3), BTreeSet::from([9]), "{mark:?}");
+    }
+    // Every pair of bytes in the first two places, and in the last two.
+    let mut taken = Vec::new();
+    let mut marked = file.clone();
+    for pair in 0..=u16::MAX {
+        for at in [0, 2] {
+            marked[..4].copy_from_slice(b"LYN2");
+            marked[at..at + 2].copy_from_slice(&pair.to_be_bytes());
+            if check_reading(&marked, 0) == 0 {
+                taken.push(marked[..4].to_vec());
+            }
+        }
+    }
+    assert_eq!(taken, [b"LYN2", b"LYN1", b"LYN2"]);
 }
 
 #[test]
@@ -226,8 +315,8 @@ fn a_million_letters_are_taken_and_one_more_is_refused() {
 fn every_change_of_a_single_byte() {
     let mut random = Random::new(55);
     let mut numbers = BTreeSet::new();
-    for counts in SMALL {
-        let mut file = random_file(&mut random, counts);
+    for (mark, counts) in small_files() {
+        let mut file = random_file(&mut random, mark, counts);
         for at in 0..file.len() {
             for change in 1..=255 {
                 file[at] ^= change;
@@ -243,8 +332,8 @@ fn every_change_of_a_single_byte() {
 fn every_cut_and_bytes_left_over() {
     let mut random = Random::new(56);
     let many: &[u32] = &[6; 64];
-    for counts in SMALL.into_iter().chain([many]) {
-        let file = random_file(&mut random, counts);
+    for (mark, counts) in small_files().chain(MARKS.map(|mark| (mark, many))) {
+        let file = random_file(&mut random, mark, counts);
         for length in 0..file.len() {
             let number = if length < 8 { 9 } else { 11 };
             let numbers = check_file(&file[..length], counts.len());
@@ -280,8 +369,8 @@ const TOO_LARGE: [u32; 12] = [
 #[test]
 fn numbers_that_are_too_large_for_their_field() {
     let mut random = Random::new(57);
-    for counts in SMALL {
-        let file = random_file(&mut random, counts);
+    for (mark, counts) in small_files() {
+        let file = random_file(&mut random, mark, counts);
         for at in (4..8 + 8 * counts.len()).step_by(4) {
             let number = if at == 4 { 10 } else { 11 };
             for value in TOO_LARGE {
@@ -302,8 +391,9 @@ fn bodies_whose_lengths_wrap() {
     for n in TOO_LARGE {
         for count in 1..=MAX_ENTRIES {
             let counts = vec![n; count];
-            let following = cabinet::unchecked(&counts, &[]);
-            let mut without_bytes = cabinet::unchecked(&vec![0; count], &[]);
+            let mark = MARKS[count % 2];
+            let following = cabinet::unchecked(mark, &counts, &[]);
+            let mut without_bytes = cabinet::unchecked(mark, &vec![0; count], &[]);
             for entry in 0..count {
                 set_number(&mut without_bytes, 12 + 8 * entry, n);
             }
@@ -365,7 +455,7 @@ fn for_every_choice<I: Clone>(
 type Reading = (Vec<u8>, usize);
 
 const READING_FAULTS: &Faults<Reading> = &[
-    (9, |(file, _)| file[3] = b'2'),
+    (9, |(file, _)| file[3] = b'3'),
     (10, |(file, _)| set_number(file, 4, 65)),
     (11, |(file, _)| set_number(file, 16, 33)),
     (11, |(file, _)| set_number(file, 28, LIMIT + 1)),
@@ -379,9 +469,9 @@ const READING_FAULTS: &Faults<Reading> = &[
 #[test]
 fn the_order_of_a_readings_refusals() {
     for (trees, number) in three_bodies() {
-        let file = cabinet::unchecked(&[5; 3], &trees);
-        for entry in 0..3 {
-            let input = (file.clone(), entry);
+        for (entry, mark) in [(0, 2), (1, 1), (2, 2)] {
+            let file = cabinet::unchecked(mark, &[5; 3], &trees);
+            let input = (file, entry);
             for_every_choice(
                 &input,
                 READING_FAULTS,
@@ -466,7 +556,8 @@ fn random_files_with_random_damage() {
     let mut numbers = BTreeSet::new();
     for _ in 0..5_000 {
         let counts = random_counts(&mut random);
-        let mut file = random_file(&mut random, &counts);
+        let mark = MARKS[random.below(2)];
+        let mut file = random_file(&mut random, mark, &counts);
         damage(&mut random, &mut file);
         numbers.extend(check_file(&file, counts.len()));
     }
@@ -483,7 +574,7 @@ fn random_bytes() {
     }
     let mut numbers = BTreeSet::new();
     for _ in 0..50_000 {
-        let mut file = b"LYN1".to_vec();
+        let mut file = [b"LYN1", b"LYN2"][random.below(2)].to_vec();
         for _ in 0..1 + random.below(6) {
             let number = [0, 1, 2, 4, 8, 16, 24, 32, 65, u32::MAX][random.below(10)];
             file.extend(number.to_le_bytes());

@@ -1,4 +1,4 @@
-/* Prints the constants of the header, a name and a number to a line. */
+/* Prints the constants of the header and where the members of its structures are, a name and a number to a line. */
 #include "lyndon.h"
 
 #include <stdio.h>
@@ -41,5 +41,25 @@ int main(void)
     SHOW(LYNDON_TREE_BYTES(5));
     SHOW(LYNDON_TREE_BYTES(1000000));
     SHOW(sizeof(struct buffers));
+    SHOW(offsetof(LyndonBuildReply, refusal));
+    SHOW(offsetof(LyndonBuildReply, finished));
+    SHOW(offsetof(LyndonBuildReply, rows));
+    SHOW(offsetof(LyndonBuildReply, equal));
+    SHOW(offsetof(LyndonBuildReply, unequal));
+    SHOW(offsetof(LyndonBuildReply, reach));
+    SHOW(sizeof(LyndonBuildReply));
+    SHOW(offsetof(LyndonReply, refusal));
+    SHOW(offsetof(LyndonReply, value));
+    SHOW(sizeof(LyndonReply));
+    SHOW(offsetof(LyndonPartReply, refusal));
+    SHOW(offsetof(LyndonPartReply, start));
+    SHOW(offsetof(LyndonPartReply, length));
+    SHOW(sizeof(LyndonPartReply));
+    SHOW(offsetof(LyndonCabinetReply, refusal));
+    SHOW(offsetof(LyndonCabinetReply, mark));
+    SHOW(offsetof(LyndonCabinetReply, letters));
+    SHOW(offsetof(LyndonCabinetReply, start));
+    SHOW(offsetof(LyndonCabinetReply, length));
+    SHOW(sizeof(LyndonCabinetReply));
     return 0;
 }

@@ -32,7 +32,8 @@ fn check_string(random: &mut Random, letters: &[u8], halts: usize) {
 fn check_kinds(seed: u64, lengths: &[usize], halts: usize) {
     let mut random = Random::new(seed);
     for &n in lengths {
-        for (_, letters) in samples::kinds(&mut random, n) {
+        let kinds = samples::kinds(&mut random, n).into_iter();
+        for (_, letters) in kinds.chain(samples::bases(&mut random, n)) {
             check_string(&mut random, &letters, halts);
         }
     }
@@ -75,6 +76,21 @@ fn random_words_repeated() {
     }
 }
 
+/// Words of the first letters of the alphabet, so that they repeat further than a byte does.
+#[test]
+fn random_words_repeated_in_mixed_case() {
+    let mut random = Random::new(18);
+    for _ in 0..500 {
+        let n = 1 + random.below(2_000);
+        let (length, size) = (1 + random.below(20), 1 + random.below(3));
+        let word: Vec<u8> = (0..length)
+            .map(|_| b'a' + random.below(size) as u8)
+            .collect();
+        let letters = samples::in_random_case(&mut random, &samples::repeated(&word, n));
+        check_string(&mut random, &letters, 3);
+    }
+}
+
 /// The string whole and with a random number of rows, by the definitions.
 fn check_by_definitions(random: &mut Random, letters: &[u8]) {
     let n = letters.len();
@@ -86,8 +102,11 @@ fn check_by_definitions(random: &mut Random, letters: &[u8]) {
 #[test]
 fn strings_of_each_kind_by_the_definitions() {
     let mut random = Random::new(16);
-    for (_, letters) in samples::kinds(&mut random, 1_000) {
+    let kinds = samples::kinds(&mut random, 1_000).into_iter();
+    for (_, letters) in kinds.chain(samples::bases(&mut random, 1_000)) {
         check_by_definitions(&mut random, &letters);
+        let masked = samples::in_random_case(&mut random, &letters);
+        check_by_definitions(&mut random, &masked);
     }
 }
 

@@ -49,6 +49,7 @@ fn every_string_over_three_letters() {
 /// Strings of `n` letters of different kinds.
 fn strings(random: &mut Random, n: usize) -> Vec<(&'static str, Vec<u8>)> {
     let mut strings = samples::kinds(random, n);
+    strings.extend(samples::bases(random, n));
     // With the order of the letters reversed.
     let upside_down = |letters: &[u8]| letters.iter().map(|letter| 255 - letter).collect();
     strings.extend([
@@ -59,6 +60,8 @@ fn strings(random: &mut Random, n: usize) -> Vec<(&'static str, Vec<u8>)> {
         ("squares", samples::squares(n)),
         ("planted", samples::planted(random, n).0),
     ]);
+    let masked = samples::in_random_case(random, &samples::fibonacci(n));
+    strings.push(("Fibonacci, mixed case at random", masked));
     strings
 }
 
@@ -122,6 +125,20 @@ fn random_words_repeated() {
     }
 }
 
+#[test]
+fn random_words_repeated_in_mixed_case() {
+    let mut random = Random::new(58);
+    for _ in 0..500 {
+        let n = 1 + random.below(2_000);
+        let (length, size) = (1 + random.below(20), 1 + random.below(3));
+        let word: Vec<u8> = (0..length)
+            .map(|_| b'a' + random.below(size) as u8)
+            .collect();
+        let letters = samples::in_random_case(&mut random, &samples::repeated(&word, n));
+        check_string(&letters, &fast_runs::runs(&letters));
+    }
+}
+
 /// The runs as the wrapper gives them in memory of its own.
 fn runs(letters: &[u8]) -> Vec<[usize; 3]> {
     let runs = lyndon::runs(letters).expect("at most 1,000,000 letters");
@@ -134,6 +151,7 @@ fn runs_that_are_known() {
     assert_eq!(runs(b"banana"), [[1, 6, 2]]);
     let mississippi = [[1, 8, 3], [2, 4, 1], [5, 7, 1], [8, 10, 1]];
     assert_eq!(runs(b"mississippi"), mississippi);
+    assert_eq!(runs(b"MIsSisSIPpi"), mississippi);
     // Two runs with the same start: the shorter period comes first.
     let aabaab = [[0, 2, 1], [0, 6, 3], [3, 5, 1]];
     assert_eq!(runs(b"aabaab"), aabaab);

@@ -353,7 +353,8 @@ pub fn assert_questions(n: usize, tree: &[u8], position: usize, expected: [Quest
     }
 }
 
-/// Asserts that the longest word at `position` is the expected part of `letters` itself.
+/// Asserts that the longest word at `position` is the expected part of `letters` itself, its bytes as they
+/// stand.
 pub fn assert_word(letters: &[u8], position: usize, expected: &[u8]) {
     let word = lyndon::longest_word(letters, position).expect("a position inside the string");
     assert_eq!(
