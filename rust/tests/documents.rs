@@ -1,9 +1,11 @@
 //! What the pages say: the programs of docs/LINKING.md, made and run by the commands that the page gives; the output that
-//! README shows; the edits and files that docs/GUARANTEES.md names.
+//! README shows; the files that docs/FORMAT.md shows; the edits and files that docs/GUARANTEES.md names.
 
 use std::collections::BTreeSet;
 use std::path::Path;
 use std::process::Command;
+
+use lyndon::{Mark, Structure};
 
 /// The repository's root.
 const ROOT: &str = concat!(env!("CARGO_MANIFEST_DIR"), "/..");
@@ -69,6 +71,59 @@ fn the_readme_shows_the_output_that_the_program_is_held_to() {
         fenced(&text_of("README.md"), "text"),
         text_of("crates/tables/stdout")
     );
+}
+
+/// The bytes that a text begins with, each of two hexadecimal digits.
+fn bytes(text: &str) -> impl Iterator<Item = u8> + '_ {
+    let byte = |word: &str| match word.len() {
+        2 => u8::from_str_radix(word, 16).ok(),
+        _ => None,
+    };
+    text.split_whitespace().map_while(byte)
+}
+
+/// The cabinet file of the trees of these strings.
+fn file_of(strings: &[&[u8]]) -> Vec<u8> {
+    let counts: Vec<u32> = strings.iter().map(|string| string.len() as u32).collect();
+    let tree = |string: &&[u8]| Structure::of(string).expect("a short string").tree;
+    let trees: Vec<u8> = strings.iter().flat_map(tree).collect();
+    let mut file = vec![0; lyndon::cabinet_length(&counts)];
+    lyndon::cabinet_write(&counts, &trees, &mut file).expect("trees of strings");
+    file
+}
+
+#[test]
+fn the_format_shows_a_file_as_it_is_written() {
+    let page = text_of("docs/FORMAT.md");
+    let (_, example) = page.split_once("\nThe file of banana").expect("the file");
+    let mut shown = Vec::new();
+    for line in fenced(example, "").lines() {
+        let (place, behind) = line.trim_start().split_once("  ").expect("a place");
+        assert_eq!(place.parse(), Ok(shown.len()), "{line}");
+        shown.extend(bytes(behind));
+    }
+    assert_eq!(shown, file_of(&[b"banana", b"", b"ab"]));
+}
+
+#[test]
+fn the_format_shows_a_file_of_each_mark() {
+    let page = text_of("docs/FORMAT.md");
+    let (_, example) = page
+        .split_once("the file of `aB` alone:\n\n")
+        .expect("the file");
+    let (table, _) = example.split_once("\n\n").expect("the end of the table");
+    let column = |k: usize| -> Vec<u8> {
+        let rows = table.lines().skip(2).map(|row| row.split('|'));
+        rows.flat_map(|mut cells| bytes(cells.nth(k).expect("a cell")))
+            .collect()
+    };
+    let (since, before) = (column(2), column(3));
+    assert_eq!(since, file_of(&[b"aB"]));
+    for (file, mark, tree) in [(since, Mark::Lyn2, 0x03), (before, Mark::Lyn1, 0x05)] {
+        let entry = lyndon::cabinet_read(&file, 0).expect("a file with a mark");
+        assert_eq!((entry.mark, entry.letters), (mark, 2));
+        assert_eq!(entry.tree, [tree]);
+    }
 }
 
 /// What stands between single backquotes, in order.
