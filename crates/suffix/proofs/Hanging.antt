@@ -20,11 +20,11 @@ pub data Hung (y : List ℕ) (R : ℕ) : ℕ → ℕ → ℕ → Forest → Type
   node : {p i e : ℕ} {under right : Forest} → i < R → previous y i ≡ p → Hung y R i (suc i) (min (next y i) R) under → Hung y R p (min (next y i) R) e right
       → Hung y R p i e (tree under right)
 
-hanging-in : (y : List ℕ) (p i t : ℕ) → previous y i ≡ p → hanging y p i (suc t) ≡ tree (hanging y i (suc i) t) (hanging y p (suc i) t)
+pub hanging-in : (y : List ℕ) (p i t : ℕ) → previous y i ≡ p → hanging y p i (suc t) ≡ tree (hanging y i (suc i) t) (hanging y p (suc i) t)
 unfolding hanging
 hanging-in y p i t e = rw (eq-eqb (previous y i) p e, hanging)
 
-hanging-out : (y : List ℕ) (p i t : ℕ) → previous y i ≢ p → hanging y p i (suc t) ≡ hanging y p (suc i) t
+pub hanging-out : (y : List ℕ) (p i t : ℕ) → previous y i ≢ p → hanging y p i (suc t) ≡ hanging y p (suc i) t
 unfolding hanging
 hanging-out y p i t e = rw (ne-eqb (previous y i) p e, hanging)
 

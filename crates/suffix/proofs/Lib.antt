@@ -3,6 +3,7 @@ pub mod Cases
 pub mod Search
 pub mod Ranks
 pub mod Masking
+pub mod BothOrders
 pub mod Sequence
 pub mod Edges
 pub mod Order

@@ -13,7 +13,7 @@ use Rattle.suffix.specs.Nearest.{previous, next, previousMatch, nextMatc
 use Rattle.suffix.specs.Rows.{previousAfter, nextAfter, previousMatchAfter, nextMatchAfter, tablesAfter, isPair}
 use Rattle.suffix.specs.Lyndon.{isLyndon, longestLyndon}
 use Rattle.suffix.specs.Periods.{HasPeriod, hasPeriod, rotation, cycled, CycledLess, RepeatsAfter, LeastRepeat, Splits, SmallestRotation, RotationsDiffer}
-use Rattle.suffix.specs.Tree.{treeAfter, rowsWrite}
+use Rattle.suffix.specs.Tree.{treeAfter, treeBytes, rowsWrite}
 
 -- ---- the ranks of letters (T-04)
 
@@ -63,6 +63,23 @@ pub record InCapitals (letters capitals : List ℕ) : Type 0 where
 
 abbrev pub RanksAreCapitals : Type 0
 RanksAreCapitals = (letters : List ℕ) → InCapitals letters (ranks letters) × (ranks (ranks letters) ≡ ranks letters)
+
+-- "Trees already filed keep the old order", that of the values. Both orders give a string the same entries, matches and tree where it has no small
+-- letter, or no byte from 65 to 96
+abbrev pub NotBetween : ℕ → Type 0
+NotBetween letter = (letter < 65) ⊎ (96 < letter)
+
+abbrev pub NoneBetween : List ℕ → Type 0
+NoneBetween letters = (i : ℕ) → i < length letters → NotBetween (getD letters i 0)
+
+pub record SameInBothOrders (letters : List ℕ) : Type 0 where
+  pub previous : (i : ℕ) → previous (ranks letters) i ≡ previous letters i
+  pub next : (i : ℕ) → next (ranks letters) i ≡ next letters i
+  pub match : (i j : ℕ) → lce (ranks letters) i j ≡ lce letters i j
+  pub tree : (R : ℕ) → treeBytes (ranks letters) R ≡ treeBytes letters R
+
+abbrev pub OrdersAgree : Type 0
+OrdersAgree = (letters : List ℕ) → Unmasked letters ⊎ NoneBetween letters → SameInBothOrders letters
 
 -- ---- the order of suffixes, the empty one at n among them
 
