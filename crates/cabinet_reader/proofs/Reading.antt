@@ -1,17 +1,14 @@
 -- Contents that are looked through entry by entry.
 use mathlib.Core.Path.{_≡_, sym, ap, _∙_}
 use mathlib.Core.Logic.{_≢_}
-use mathlib.Core.Bool.{true, not}
+use mathlib.Core.Bool.{true, false}
 use mathlib.Core.List.{List}
 use Prim.Native.Nat.{ℕ, _+_, _-_, _*_, _≤_, _<_}
 use native.Mathlib.Omega.{arith}
-use lib.Dec.{eqb}
 use lib.ListN.{length, take, drop, set, length-set, length-drop}
 use lib.Seq.{take-all, getD-set-same, getD-set-other}
-use borrow.Author.Tests.{eq-eqb, ne-eqb}
 use Rattle.suffix.specs.Search.{sumBelow}
 use Rattle.suffix.specs.Tree.{treeLength}
-use Rattle.suffix.proofs.Cases.{Same, same, other, same?}
 use Rattle.suffix.proofs.Search.{tabulate-is}
 use Rattle.cabinet.specs.File.{contentsEnd, countIn, countOf, placeOf, lettersOf, endBefore, countsOf}
 use Rattle.cabinet.specs.Refusals.{wrongContents, fileFlaw, writeRefusal}
@@ -51,14 +48,11 @@ module _ (file : List ℕ) where
       end-of : end ≡ endBefore file (countOf file)
       end-of = S .ends ∙ ap (endBefore file) c
 
-      pub wrong-end : not (eqb end (length file)) ≡ wrongContents file
-      wrong-end = go (same? end (length file))
-        where
-          go : Same end (length file) → not (eqb end (length file)) ≡ wrongContents file
-          go (same e) =
-              ap not (eq-eqb end (length file) e)
-              ∙ sym (not-wrong file (record { whole = S .whole; places = λ j w. S .places j (omega arith); ends = sym e ∙ end-of; short = λ j w. S .short j (omega arith) }))
-          go (other q) = ap not (ne-eqb end (length file) q) ∙ sym (wrong file (λ R. q (end-of ∙ sym (R .ends))))
+      pub wrong-end : end ≢ length file → wrongContents file ≡ true
+      wrong-end q = wrong file (λ R. q (end-of ∙ sym (R .ends)))
+
+      pub right-end : end ≡ length file → wrongContents file ≡ false
+      right-end e = not-wrong file (record { whole = S .whole; places = λ j w. S .places j (omega arith); ends = sym e ∙ end-of; short = λ j w. S .short j (omega arith) })
 
     module _ (h : k < countOf file) where
       pub wrong-place : placeOf file k ≢ end → wrongContents file ≡ true

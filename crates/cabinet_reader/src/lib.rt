@@ -65,7 +65,10 @@ fn wrong_contents(file: &[u8], counts: &mut [u32]) -> bool
         end += tree_length(n as usize);
         k += 1;
     }
-    end != file.len()
+    if end != file.len() {
+        return true;
+    }
+    false
 }
 
 // Whether the entry of a marked file of at most 64 entries is read: 11, 5, and 6 to 8 body by body. The letter counts are put into `counts`.

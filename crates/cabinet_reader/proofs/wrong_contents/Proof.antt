@@ -5,7 +5,7 @@ use Prim.Native.Nat.{_-_, _≤_}
 use native.Mathlib.Omega.{arith}
 use lib.ListN.{length, length-set}
 use Rattle.cabinet.specs.File.{contentsEnd, countOf}
-use Rattle.cabinet_reader.proofs.Reading.{RightTo, right-none, too-short, end-most, right-more, wrong-end, wrong-place, wrong-letters, ListedTo, listed-none, listed-more, all-listed}
+use Rattle.cabinet_reader.proofs.Reading.{RightTo, right-none, too-short, end-most, right-more, wrong-end, right-end, wrong-place, wrong-letters, ListedTo, listed-none, listed-more, all-listed}
 use Rattle.cabinet_reader.proofs.wrong_contents.Statement.{statement}
 use Rattle.cabinet_reader.proofs.wrong_contents.Tie as tie
 
@@ -53,16 +53,25 @@ loop-again c =
     let file = s .args .file .now in (
       simp length-set (omega arith),
       right-more file (l .loop .inv .1) (omega (arith, c .tree-length .ensures, n)) (omega (arith, p, d .before .if2 .left)) (omega (arith, n)),
-      listed-more file (l .loop .counts) (l .loop .inv .2) (omega (arith, l .loop .inv .2 .size)) n,
+      listed-more file (l .loop .counts) (l .loop .inv .2) (omega (arith, l .loop .inv .2 .size)) (omega (arith, n)),
     )
+
+-- past the loop
+all : (l : tie.At-loop Inv-loop μ-loop) → length (l .loop .counts) ≤ l .loop .k → l .loop .k ≡ countOf (l .before .before .before .before .args .file .now)
+all l h = omega (arith, h, l .loop .inv .2 .size)
 
 returns-4 : tie.Need-returns-4 Inv-loop μ-loop
 returns-4 c =
-    let l = c .before in
+    let l = c .before .before in
+    let s = l .before .before .before .before in
+    (sym (wrong-end (s .args .file .now) (l .loop .inv .1) (all l (omega arith)) (omega arith)), λ e. absurd (true≢false e))
+
+returns-5 : tie.Need-returns-5 Inv-loop μ-loop
+returns-5 c =
+    let l = c .before .before in
     let s = l .before .before .before .before in
     let file = s .args .file .now in
-    let z : l .loop .k ≡ countOf file = omega (arith, l .loop .inv .2 .size) in
-    (wrong-end file (l .loop .inv .1) z, λ e. all-listed file (l .loop .counts) (l .loop .inv .2) z)
+    (sym (right-end file (l .loop .inv .1) (all l (omega arith)) (omega arith)), λ e. all-listed file (l .loop .counts) (l .loop .inv .2) (all l (omega arith)))
 
 pub wrong-contents-spec : {M : Type 1} → statement M
 wrong-contents-spec =
@@ -93,5 +102,7 @@ wrong-contents-spec =
     (λ c. omega arith)
     (λ c. simp length-set (omega arith))
     loop-again
-    (λ c. omega (arith, c .before .loop .inv .2 .size))
-    returns-4)
+    (λ c. omega (arith, c .before .before .loop .inv .2 .size))
+    returns-4
+    (λ c. omega (arith, c .before .before .loop .inv .2 .size))
+    returns-5)
