@@ -143,11 +143,13 @@ acceptedThenWritten file before small e z =
     let A = accepted file e in
     let M = marked file (A .marked) in
     let t = ap (writeRefusal (countsOf file) (bodiesOf file)) z ∙ flaw-apart file (A .few) (A .right) ∙ A .sound in
+    let w = unless-taken _ _ _ t in
     record {
       taken = t;
-      marked = unless-taken _ _ _ t ∙ again file small A LYN2;
-      same = λ w.
-          unless-taken _ _ _ t
-          ∙ ap (λ m. markedFile m (countsOf file) (bodiesOf file)) (sym (one-mark (M .mark) LYN2 (omega (arith, mark-met file M, w))))
+      written = w;
+      marked = w ∙ again file small A LYN2;
+      same = λ two.
+          w
+          ∙ ap (λ m. markedFile m (countsOf file) (bodiesOf file)) (sym (one-mark (M .mark) LYN2 (omega (arith, mark-met file M, two))))
           ∙ file-again file small A;
     }

@@ -7,7 +7,7 @@ use Prim.Native.Nat.{ℕ, _≤_, _<_}
 use lib.ListN.{length, getD, drop}
 use Rattle.refusal.specs.Conditions.{treeRefusal}
 use Rattle.shape.specs.Claims.{AreBytes}
-use Rattle.cabinet.specs.File.{Mark, LYN2, markBytes, markNumber, markedFile, bodyIn, countIn, markOf, countOf, countsOf, bodiesOf}
+use Rattle.cabinet.specs.File.{Mark, LYN2, markBytes, markNumber, markedFile, cabinet, bodyIn, countIn, markOf, countOf, countsOf, bodiesOf}
 use Rattle.cabinet.specs.Refusals.{readRefusal, fileRefusal, writeRefusal}
 use Rattle.cabinet.specs.Answers.{writtenFile, readBody, readPlace, readLetters, readMark}
 
@@ -48,6 +48,7 @@ WrittenIsAccepted = (counts trees before after : List ℕ) → writeRefusal coun
 -- gives the same bytes for `LYN2`". A file with either mark is taken, and has `LYN2` then; from its fifth byte on it is the same
 pub record WrittenAgain (file before : List ℕ) : Type 0 where
   pub taken : writeRefusal (countsOf file) (bodiesOf file) (length before) ≡ 0
+  pub written : writtenFile (countsOf file) (bodiesOf file) before ≡ cabinet (countsOf file) (bodiesOf file)
   pub marked : writtenFile (countsOf file) (bodiesOf file) before ≡ markBytes LYN2 ++ drop 4 file
   pub same : markOf file ≡ 2 → writtenFile (countsOf file) (bodiesOf file) before ≡ file
 

@@ -37,7 +37,7 @@ unfoldable pub contents : ℕ → List ℕ → List ℕ
 contents place [] = []
 contents place (n ∷ counts) = fourBytes place ++ fourBytes n ++ contents (place + treeLength n) counts
 
--- The mark, "then a 32-bit little-endian entry count", the contents and the bodies, which "end the file"
+-- the mark, "then a 32-bit little-endian entry count", the contents and the bodies, which "end the file"
 unfoldable pub markedFile : Mark → List ℕ → List ℕ → List ℕ
 markedFile mark counts trees = markBytes mark ++ fourBytes (length counts) ++ contents (contentsEnd (length counts)) counts ++ trees
 

@@ -1,4 +1,4 @@
-// The bodies of a cabinet file, judged one by one with their letter counts: document 02, T-01. The reader and the writer ask for it.
+// The verdict on letter counts and bodies of a cabinet file, for the writer and for the reader: document 02, T-01.
 ghost use mathlib.Core.Path.{_≡_};
 ghost use lib.ListN.{length};
 ghost use Rattle.refusal.specs.Numbers.{verdictNumber};

@@ -43,7 +43,7 @@ fn mark_of(file: &[u8]) -> u32
     0
 }
 
-// Whether the contents are wrong: 11. Where they are right, it leaves their letter counts in `counts`, which is as long as they are many.
+// Whether the contents are wrong: 11. The letter counts of right ones are left in `counts`, which has an entry for each.
 fn wrong_contents(file: &[u8], counts: &mut [u32]) -> bool
     requires { ⌜ (length (now counts) ≡ countOf (now file)) × (length (now counts) ≤ 64) ⌝ }
     ensures { λ r. ⌜ (r ≡ wrongContents (now (file .entry))) × (r ≡ false → now (counts .exit) ≡ countsOf (now (file .entry))) ⌝ }
@@ -71,7 +71,7 @@ fn wrong_contents(file: &[u8], counts: &mut [u32]) -> bool
     false
 }
 
-// Whether the entry of a marked file of at most 64 entries is read: 11, 5, and 6 to 8 body by body. The letter counts are put into `counts`.
+// Whether the entry of a marked file of at most 64 entries is read: 11, 5, and 6 to 8 body by body. `counts` is room for the letter counts.
 fn contents_verdict(file: &[u8], entry: usize, counts: &mut [u32]) -> Verdict
     requires { ⌜ (notMarked (now file) ≡ false) × (length (now counts) ≡ countOf (now file)) × (length (now counts) ≤ 64) ⌝ }
     ensures { λ r. ⌜ verdictNumber r ≡ readRefusal (now (file .entry)) entry ⌝ }
@@ -85,6 +85,7 @@ fn contents_verdict(file: &[u8], entry: usize, counts: &mut [u32]) -> Verdict
     cabinet_bodies::verdict_on(counts, &file[8 + 8 * counts.len()..], file.len())
 }
 
+// Room for the letter counts.
 fn room() -> [u32; 64]
     ensures { λ r. ⌜ 64 ≡ length r ⌝ }
 {

@@ -25,7 +25,7 @@ returns-3 c =
     let d = c .before in
     let t = d .before in
     let s = t .before .before .before in
-    sym (question-5 (s .args .n) (s .args .tree .now) (s .args .position) (t .before .if1 .left) (sized d) (c .if3 .taken))
+    sym (question-5 (s .args .n) (s .args .tree .now) (s .args .position) (t .before .if1 .left) (sized d) (omega arith))
 
 returns-4 : tie.Need-returns-4
 returns-4 c =
