@@ -8,9 +8,9 @@ use Rattle.refusal.specs.declared.Refusal.the-variants.{TooLong, TableLe
 use Rattle.refusal.specs.declared.Verdict.{Verdict}
 use Rattle.refusal.specs.declared.Verdict.the-variants.{Accepted, Refused}
 
--- "1: n above 1,000,000." to "8: no such place, but not all are closed."; T-01: "9 for a file under 8 bytes or with another mark; 10 for a
--- count above 64; 11 where the contents are cut short" and the rest of that sentence; T-03: "12 where the three lists differ in length, and 13
--- exactly where there are more runs than entries"
+-- "1: n above 1,000,000." to "8: no such place, but not all are closed."; T-01: "10 for a count above 64; 11 where the contents are cut
+-- short" and the rest of that sentence; T-03: "12 where the three lists differ in length, and 13 exactly where there are more runs than entries";
+-- T-04: "9 now means a file under 8 bytes or with neither mark."
 abbrev pub numberOf : Refusal → ℕ
 numberOf TooLong = 1
 numberOf TableLength = 2

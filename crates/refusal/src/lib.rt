@@ -1,4 +1,4 @@
-// Why an operation refuses: document 01, "Who can cause which refusal", and document 02, T-01 and T-03.
+// Why an operation refuses: document 01, "Who can cause which refusal", and document 02, T-01, T-03 and T-04.
 ghost use mathlib.Core.Path.{_≡_};
 ghost use Rattle.refusal.specs.Numbers.{numberOf, verdictNumber};
 ghost use Rattle.refusal.specs.Conditions.{buildRefusal, tablesRefusal};
