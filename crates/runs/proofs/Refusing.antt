@@ -1,59 +1,55 @@
 -- The refusals, test by test.
 use mathlib.Core.Path.{_≡_, refl, sym, ap, _∙_}
 use mathlib.Core.Logic.{_≢_, _⊎_, inl, inr}
-use mathlib.Core.Bool.{Bool, true, false, not, _||_}
+use mathlib.Core.Bool.{Bool, true, false, not}
 use mathlib.Core.List.{List, [], _∷_, _++_, map}
-use Prim.Native.Nat.{ℕ, _≤_, _<_}
+use Prim.Native.Nat.{ℕ, _≤_}
 use native.Mathlib.Omega.{arith}
 use lib.Dec.{eqb}
-use lib.ListN.{length}
-use borrow.Author.Tests.{lt-ltb, le-ltb, ltb-false, eq-eqb, ne-eqb}
+use lib.ListN.{length, getD, replicate}
+use borrow.Author.Tests.{eq-eqb, ne-eqb}
 use Rattle.refusal.specs.declared.Refusal.{Refusal}
 use Rattle.refusal.specs.declared.Refusal.the-variants.{TooLong, TableLength, ListLengths, TooManyRuns}
 use Rattle.refusal.specs.declared.Answer.{Answer}
 use Rattle.refusal.specs.declared.Answer.the-variants.{NoValue}
-use Rattle.refusal.specs.Answers.{answered}
+use Rattle.refusal.specs.Answers.{figuresOf, answered}
 use Rattle.refusal.specs.Numbers.{numberOf, numberIf, firstOf, unlessRefused}
 use Rattle.refusal.specs.Conditions.{tooLong}
-use Rattle.refusal.proofs.Numbers.{positive, neither}
+use Rattle.refusal.proofs.Numbers.{positive, neither, unless-taken}
 use Rattle.refusal.proofs.Tables.{not-off}
-use Rattle.refusal.proofs.Answers.{answered-refused}
-use Rattle.repeats.specs.Runs.{Run}
+use Rattle.refusal.proofs.Answers.{answered-value, answered-refused}
 use Rattle.repeats.specs.Report.{runs}
-use Rattle.repeats.specs.Refusals.{Lists, workLengthOff, listLengthsDiffer, tooManyRuns, lengthsRefusal, runsRefusal}
+use Rattle.repeats.specs.Refusals.{Lists, lists, workLengthOff, listLengthsDiffer, tooManyRuns, lengthsRefusal, runsRefusal}
 use Rattle.repeats.specs.Answers.{answer, listsOf, listsAfter, zeros}
+use Rattle.repeats.proofs.Gathering.{runs-most}
 use Rattle.repeats.proofs.Laws.{refusalsLeave}
-use Rattle.runs.specs.Lists.{roomRefusal, Written}
-use Rattle.runs.specs.Reported.{Reported}
-
--- ---- 2
-
-pub off-here : (a n : ℕ) (others : Bool) → a ≢ n → true ≡ not (eqb a n) || others
-off-here a n others e = rw (ne-eqb a n e)
-
-pub off-later : (a n : ℕ) {b others : Bool} → a ≡ n → b ≡ others → b ≡ not (eqb a n) || others
-off-later a n e w = rw (eq-eqb a n e) w
+use Rattle.roots.specs.WorkTables.{workRefusal, workWith, Gathered}
+use Rattle.roots.proofs.Refusing.{fitting}
+use Rattle.runs.specs.Lists.{roomRefusal, Written, Ended, valueOr0}
+use Rattle.runs.specs.Reported.{workOf, Reported}
+use Rattle.runs.proofs.Writing.{lists-end, cut-lists, lists-length}
 
 -- ---- 1, 2 and 12, by their tests a, b and c, and then 13, by its test d
 
 abbrev numbers : (a b c : Bool) → List ℕ
 numbers a b c = numberIf a TooLong ∷ numberIf b TableLength ∷ numberIf c ListLengths ∷ []
 
-first-one : (a b c : Bool) → a ≡ true → 1 ≡ firstOf (numbers a b c)
-unfolding firstOf
-first-one a b c e = rw e
+abbrev two : (a b : Bool) → List ℕ
+two a b = numberIf a TooLong ∷ numberIf b TableLength ∷ []
 
-first-two : (a b c : Bool) → a ≡ false → b ≡ true → 2 ≡ firstOf (numbers a b c)
+-- 1 and 2 come first, with neither of them 12 is left
+work-first : (a b c : Bool) → firstOf (two a b) ≢ 0 → firstOf (numbers a b c) ≡ firstOf (two a b)
 unfolding firstOf
-first-two a b c e f = rw (e, f)
+work-first true b c h = refl
+work-first false true c h = refl
+work-first false false c h = absurd (h refl)
 
-first-twelve : (a b c : Bool) → a ≡ false → b ≡ false → c ≡ true → 12 ≡ firstOf (numbers a b c)
+work-none : (a b c : Bool) → firstOf (two a b) ≡ 0 → firstOf (numbers a b c) ≡ numberIf c ListLengths
 unfolding firstOf
-first-twelve a b c e f g = rw (e, f, g)
-
-first-none : (a b c : Bool) → a ≡ false → b ≡ false → c ≡ false → 0 ≡ firstOf (numbers a b c)
-unfolding firstOf
-first-none a b c e f g = rw (e, f, g)
+work-none true b c h = absurd (omega arith)
+work-none false true c h = absurd (omega arith)
+work-none false false true h = refl
+work-none false false false h = refl
 
 -- a refusal by lengths is the refusal, and is not 13
 lengths-first : (a b c d : Bool) → firstOf (numbers a b c) ≢ 0 → (firstOf (numbers a b c ++ numberIf d TooManyRuns ∷ []) ≡ firstOf (numbers a b c)) × (firstOf (numbers a b c) ≢ 13)
@@ -64,69 +60,76 @@ lengths-first false false true d h = (refl, omega arith)
 lengths-first false false false d h = absurd (h refl)
 
 -- with none of them 13 is left
-lengths-none : (a b c d : Bool) → firstOf (numbers a b c) ≡ 0 → (a ≡ false) × (b ≡ false) × (c ≡ false) × (firstOf (numbers a b c ++ numberIf d TooManyRuns ∷ []) ≡ numberIf d TooManyRuns)
+lengths-none : (a b c d : Bool) → firstOf (numbers a b c) ≡ 0 → (firstOf (two a b) ≡ 0) × (c ≡ false) × (firstOf (numbers a b c ++ numberIf d TooManyRuns ∷ []) ≡ numberIf d TooManyRuns)
 unfolding firstOf
 lengths-none true b c d h = absurd (omega arith)
 lengths-none false true c d h = absurd (omega arith)
 lengths-none false false true d h = absurd (omega arith)
-lengths-none false false false true h = (refl, refl, refl, refl)
-lengths-none false false false false h = (refl, refl, refl, refl)
+lengths-none false false false true h = (refl, refl, refl)
+lengths-none false false false false h = (refl, refl, refl)
 
 module _ (n : ℕ) (work : List ℕ) (starts ends periods : ℕ) where
+  abbrev by-lengths : ℕ
+  by-lengths = lengthsRefusal n work starts ends periods
+
   abbrev differ : Bool
   differ = listLengthsDiffer starts ends periods
 
-  pub says-one : 1000000 < n → {k : ℕ} → k ≡ 1 → k ≡ lengthsRefusal n work starts ends periods
-  unfolding lengthsRefusal
-  says-one h q = q ∙ first-one (tooLong n) (workLengthOff n work) differ (lt-ltb 1000000 n h)
+  pub says-work : (k : Refusal) → numberOf k ≡ workRefusal n work → numberOf k ≡ by-lengths
+  unfolding workRefusal lengthsRefusal
+  says-work k e = e ∙ sym (work-first (tooLong n) (workLengthOff n work) differ (λ z. omega (arith, positive k, e, z)))
 
-  module _ (h : n ≤ 1000000) where
-    pub says-two : workLengthOff n work ≡ true → {k : ℕ} → k ≡ 2 → k ≡ lengthsRefusal n work starts ends periods
-    unfolding lengthsRefusal
-    says-two e z = z ∙ first-two (tooLong n) (workLengthOff n work) differ (le-ltb 1000000 n h) e
+  module _ (w : workRefusal n work ≡ 0) where
+    says : {k : ℕ} (b : Bool) → k ≡ numberIf b ListLengths → differ ≡ b → k ≡ by-lengths
+    unfolding workRefusal lengthsRefusal
+    says b z e = z ∙ ap (λ d. numberIf d ListLengths) (sym e) ∙ sym (work-none (tooLong n) (workLengthOff n work) differ w)
 
-    module _ (w : workLengthOff n work ≡ false) where
-      pub says-twelve : ends ≢ starts → {k : ℕ} → k ≡ 12 → k ≡ lengthsRefusal n work starts ends periods
-      unfolding lengthsRefusal
-      says-twelve e z = z ∙ first-twelve (tooLong n) (workLengthOff n work) differ (le-ltb 1000000 n h) w (sym (off-here ends starts (not (eqb periods starts)) e))
+    pub says-twelve : ends ≢ starts → {k : ℕ} → k ≡ 12 → k ≡ by-lengths
+    says-twelve e z = says true z (rw (ne-eqb ends starts e))
 
-      pub says-twelve-too : ends ≡ starts → periods ≢ starts → {k : ℕ} → k ≡ 12 → k ≡ lengthsRefusal n work starts ends periods
-      unfolding lengthsRefusal
-      says-twelve-too e q z = z ∙ first-twelve (tooLong n) (workLengthOff n work) differ (le-ltb 1000000 n h) w (rw (eq-eqb ends starts e, ne-eqb periods starts q))
+    pub says-twelve-too : ends ≡ starts → periods ≢ starts → {k : ℕ} → k ≡ 12 → k ≡ by-lengths
+    says-twelve-too e q z = says true z (rw (eq-eqb ends starts e, ne-eqb periods starts q))
 
-      pub says-none : ends ≡ starts → periods ≡ starts → {k : ℕ} → k ≡ 0 → k ≡ lengthsRefusal n work starts ends periods
-      unfolding lengthsRefusal
-      says-none e q z = z ∙ first-none (tooLong n) (workLengthOff n work) differ (le-ltb 1000000 n h) w (rw (eq-eqb ends starts e, eq-eqb periods starts q))
+    pub says-none : ends ≡ starts → periods ≡ starts → {k : ℕ} → k ≡ 0 → k ≡ by-lengths
+    says-none e q z = says false z (rw (eq-eqb ends starts e, eq-eqb periods starts q))
+
+  -- where lengths refuse nothing
+  pub taken-lengths : by-lengths ≡ 0 → (workRefusal n work ≡ 0) × (ends ≡ starts) × (periods ≡ starts)
+  unfolding workRefusal lengthsRefusal
+  taken-lengths h =
+      let L = lengths-none (tooLong n) (workLengthOff n work) differ false h in
+      let u = neither (not (eqb ends starts)) (not (eqb periods starts)) (L .1) in
+      (L .0, not-off ends starts (u .0), not-off periods starts (u .1))
 
 -- ---- the two ways out
 
-module _ (y : List ℕ) (work : List (List ℕ)) (lists : Lists) where
+module _ (y : List ℕ) (work : List (List ℕ)) (lent : Lists) where
   abbrev size : ℕ
-  size = length (lists .starts)
+  size = length (lent .starts)
 
   abbrev number : ℕ
-  number = runsRefusal y work lists
+  number = runsRefusal y work lent
 
-  abbrev by-lengths : ℕ
-  by-lengths = lengthsRefusal (length y) (map length work) size (length (lists .ends)) (length (lists .periods))
+  abbrev of-lengths : ℕ
+  of-lengths = lengthsRefusal (length y) (map length work) size (length (lent .ends)) (length (lent .periods))
 
   abbrev differ-in-length : Bool
-  differ-in-length = listLengthsDiffer size (length (lists .ends)) (length (lists .periods))
+  differ-in-length = listLengthsDiffer size (length (lent .ends)) (length (lent .periods))
 
-  pub refused-by-lengths : (k : Refusal) → numberOf k ≡ by-lengths → Reported y work lists work lists (NoValue k)
+  pub refused-by-lengths : (k : Refusal) → numberOf k ≡ of-lengths → Reported y work lent work lent (NoValue k)
   unfolding lengthsRefusal runsRefusal answer
   refused-by-lengths k e =
       let L = lengths-first (tooLong (length y)) (workLengthOff (length y) (map length work)) differ-in-length (tooManyRuns y size) (λ z. omega (arith, positive k, e, z)) in
       let q : numberOf k ≡ number = e ∙ sym (L .0) in
       let ne : number ≢ 0 = (λ z. omega (arith, positive k, q, z)) in
-      let R = refusalsLeave y work lists in
+      let R = refusalsLeave y work lent in
       record { answers = answered-refused number (length (runs y)) k q; leaves-lists = sym (R .same-lists ne); leaves-work = sym (R .same-work ne (λ z. L .1 (sym e ∙ q ∙ z))) }
 
   -- where lengths refuse nothing: the runs are written or are too many, and the work tables are cleared
-  module _ (taken : by-lengths ≡ 0) where
-    room-left : number ≡ roomRefusal (runs y) size
+  module _ (taken : of-lengths ≡ 0) where
+    room-left : number ≡ roomRefusal (length (runs y)) size
     unfolding lengthsRefusal runsRefusal
-    room-left = lengths-none (tooLong (length y)) (workLengthOff (length y) (map length work)) differ-in-length (tooManyRuns y size) taken .3
+    room-left = lengths-none (tooLong (length y)) (workLengthOff (length y) (map length work)) differ-in-length (tooManyRuns y size) taken .2
 
     writes-work : (number ≡ 0) ⊎ (number ≡ 13)
     writes-work = go (tooManyRuns y size) room-left
@@ -135,52 +138,56 @@ module _ (y : List ℕ) (work : List (List ℕ)) (lists : Lists) where
         go true e = inr e
         go false e = inl e
 
-    pub reported : {l : List Run} → l ≡ runs y → {after : Lists} {r : Answer} → Written l lists after r → {cleared : List (List ℕ)} → cleared ≡ map zeros work
-        → Reported y work lists cleared after r
+    pub written-all : {after : Lists} {r : Answer} → Written (length (runs y)) (listsOf (runs y) (length y)) lent after r → {cleared : List (List ℕ)} → cleared ≡ map zeros work
+        → Reported y work lent cleared after r
     unfolding answer listsAfter
-    reported e W w =
-        let D = rw e at W in
+    written-all W w =
+        let l = runs y in
+        let m : length l ≤ length y = omega (arith, runs-most y) in
         record {
-          answers = D .answers ∙ ap (λ k. answered k (length (runs y))) (sym room-left);
-          leaves-lists = D .leaves ∙ ap (λ k. unlessRefused k (listsOf (runs y) size) lists) (sym room-left);
-          leaves-work = w ∙ sym (refusalsLeave y work lists .cleared writes-work);
+          answers = W .answers ∙ ap (λ k. answered k (length l)) (sym room-left);
+          leaves-lists = W .leaves ∙ ap (λ (t : Lists). unlessRefused (roomRefusal (length l) size) t lent) (cut-lists l (length y) m size) ∙ ap (λ k. unlessRefused k (listsOf l size) lent) (sym room-left);
+          leaves-work = w ∙ sym (refusalsLeave y work lent .cleared writes-work);
         }
 
--- ---- what is lent, where lengths refuse nothing
+-- The runs are gathered in the tables a to f, which were g to l: where lengths refuse nothing, nothing is refused there.
+module _ (y : List ℕ) (lent : Lists) {g h i j k l a b c d e f : List ℕ}
+    (taken : lengthsRefusal (length y) (map length (workOf g h i j k l)) (length (lent .starts)) (length (lent .ends)) (length (lent .periods)) ≡ 0)
+    {r : Answer} (G : Gathered y (workOf g h i j k l) (workOf a b c d e f) r) {count : ℕ} (C : count ≡ valueOr0 (figuresOf r)) where
+  abbrev n : ℕ
+  n = length y
 
-pub record Fitting (n a b c d e f starts ends periods : ℕ) : Type 0 where
-  pub few : n ≤ 1000000
-  pub previous : a ≡ n
-  pub next : b ≡ n
-  pub previousMatch : c ≡ n
-  pub nextMatch : d ≡ n
-  pub reverseNext : e ≡ n
-  pub reverseMatch : f ≡ n
-  pub as-ends : ends ≡ starts
-  pub as-periods : periods ≡ starts
+  abbrev found : Lists
+  found = listsOf (runs y) n
 
-same-length : (a n : ℕ) (others : Bool) → not (eqb a n) || others ≡ false → (a ≡ n) × (others ≡ false)
-same-length a n others h = let u = neither (not (eqb a n)) others h in (not-off a n (u .0), u .1)
+  none : workRefusal n (map length (workOf g h i j k l)) ≡ 0
+  none = taken-lengths n (map length (workOf g h i j k l)) (length (lent .starts)) (length (lent .ends)) (length (lent .periods)) taken .0
 
-pub fitting : (n a b c d e f starts ends periods : ℕ) → lengthsRefusal n (a ∷ b ∷ c ∷ d ∷ e ∷ f ∷ []) starts ends periods ≡ 0 → Fitting n a b c d e f starts ends periods
-unfolding lengthsRefusal
-fitting n a b c d e f starts ends periods h =
-    let L = lengths-none (tooLong n) (workLengthOff n (a ∷ b ∷ c ∷ d ∷ e ∷ f ∷ [])) (listLengthsDiffer starts ends periods) false h in
-    let p = same-length a n _ (L .1) in
-    let q = same-length b n _ (p .1) in
-    let r = same-length c n _ (q .1) in
-    let s = same-length d n _ (r .1) in
-    let t = same-length e n _ (s .1) in
-    let u = same-length f n _ (t .1) in
-    let v = same-length ends starts _ (L .2) in
-    record {
-      few = ltb-false 1000000 n (L .0);
-      previous = p .0;
-      next = q .0;
-      previousMatch = r .0;
-      nextMatch = s .0;
-      reverseNext = t .0;
-      reverseMatch = u .0;
-      as-ends = v .0;
-      as-periods = not-off periods starts (v .1);
-    }
+  all-counted : count ≡ length (runs y)
+  all-counted = C ∙ ap valueOr0 (G .answers ∙ sym (answered-value (workRefusal n (map length (workOf g h i j k l))) (length (runs y)) none))
+
+  -- table m of the six
+  nth : (m : ℕ) → getD (workOf a b c d e f) m [] ≡ getD (workWith (runs y) n) m []
+  nth m = ap (λ (w : List (List ℕ)). getD w m []) (G .leaves ∙ unless-taken _ _ _ none)
+
+  in-tables : (a ≡ found .starts) × (b ≡ found .periods) × (c ≡ found .ends)
+  unfolding workWith
+  in-tables = (nth 0, nth 1, nth 2)
+
+  empty : (d ≡ replicate n 0) × (e ≡ replicate n 0) × (f ≡ replicate n 0)
+  unfolding workWith
+  empty = (nth 3, nth 4, nth 5)
+
+  pub tables-end : Ended count a × Ended count b × Ended count c
+  tables-end = let t = in-tables in rw (t .0, t .1, t .2, all-counted) (lists-end (runs y) n (omega (arith, runs-most y)))
+
+  pub reported : {after : Lists} {x : Answer} → Written count (lists a c b) lent after x → {a′ b′ c′ : List ℕ} → a′ ≡ zeros a → b′ ≡ zeros b → c′ ≡ zeros c
+      → Reported y (workOf g h i j k l) lent (workOf a′ b′ c′ d e f) after x
+  reported W {a′} {b′} {c′} p q o =
+      let t = in-tables in
+      let u = empty in
+      let L = lists-length (runs y) n in
+      let F = fitting n _ _ _ _ _ _ none in
+      let z : workOf a′ b′ c′ d e f ≡ map zeros (workOf g h i j k l) =
+      rw (p, q, o, t .0, t .1, t .2, L .0, L .1, L .2, u .0, u .1, u .2, F .previous, F .next, F .previousMatch, F .nextMatch, F .reverseNext, F .reverseMatch) in
+      written-all y (workOf g h i j k l) lent taken (rw (t .0, t .1, t .2, all-counted) at W) z

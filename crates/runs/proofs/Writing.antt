@@ -1,14 +1,14 @@
--- The lists are written, or left; the work tables are cleared.
+-- The lists are written, or left; the first entries of a table are cleared.
 use mathlib.Core.Path.{_≡_, refl, sym, ap, _∙_}
-use mathlib.Core.List.{List}
+use mathlib.Core.List.{List, [], _∷_, _++_}
 use Prim.Native.Nat.{ℕ, zero, suc, _+_, _≤_, _<_}
 use native.Mathlib.Omega.{arith}
-use lib.ListN.{length, getD, set, replicate, length-set}
+use lib.ListN.{length, getD, set, replicate, take, drop, length-set, List·getD-eq-default}
 use lib.Seq.{getD-set-same, getD-set-other}
 use borrow.Author.Tests.{lt-ltb, le-ltb}
 use Rattle.suffix.specs.Search.{tabulate}
 use Rattle.suffix.proofs.Cases.{Tri, lt, eq, gt, tri, Same, same, other, same?}
-use Rattle.suffix.proofs.Search.{tabulate-is, tabulate-same}
+use Rattle.suffix.proofs.Search.{tabulate-length, tabulate-entry, tabulate-is, tabulate-same}
 use Rattle.refusal.specs.declared.Refusal.the-variants.{TooManyRuns}
 use Rattle.refusal.specs.declared.Answer.the-variants.{Value, NoValue}
 use Rattle.refusal.specs.Numbers.{numberIf}
@@ -16,14 +16,11 @@ use Rattle.refusal.specs.Answers.{value}
 use Rattle.refusal.proofs.Numbers.{unless-taken, unless-refused}
 use Rattle.refusal.proofs.Answers.{answered-value, answered-refused}
 use Rattle.entries.specs.Cleared.{clearedFrom}
-use Rattle.entries.proofs.Clearing.{cleared-length, cleared-alike, cleared-all, cleared-get, cleared-value}
+use Rattle.entries.proofs.Clearing.{cleared-length, cleared-alike, cleared-get, cleared-value}
 use Rattle.repeats.specs.Runs.{Run, noRun}
 use Rattle.repeats.specs.Refusals.{Lists, lists}
 use Rattle.repeats.specs.Answers.{entryOf, listsOf, zeros}
-use Rattle.runs.specs.States.{entryIn, entriesFrom, entries}
-use Rattle.runs.proofs.Inserting.{entries-count}
-use Rattle.runs.specs.Lists.{cutAt, roomRefusal, Written}
-use Rattle.runs.specs.Reported.{workOf}
+use Rattle.runs.specs.Lists.{cutAt, cut, roomRefusal, Written, Ended}
 
 -- the first k entries of d, a list that was d₀, are those of t
 pub record Copied (t : List ℕ) (k : ℕ) (d₀ d : List ℕ) : Type 0 where
@@ -58,73 +55,73 @@ copied-all {t} {c} {k} {i} {v} {d₀} {d} {e} C h z p q =
     go x w (eq g) = cleared-value c 0 x d (omega arith) (omega (arith, C .size)) ∙ cut-out c t x (omega arith)
     go x w (gt g) = cleared-value c 0 x d (omega arith) (omega (arith, C .size)) ∙ cut-out c t x (omega arith)
 
--- the first c entries, as lists of a size
-entry-in : (t : Lists) (i c k : ℕ) → k < c → getD (entriesFrom t i c) k noRun ≡ entryIn t (i + k)
-unfolding entriesFrom
-entry-in t i zero k h = absurd (omega arith)
-entry-in t i (suc c) zero h = ap (entryIn t) (omega arith)
-entry-in t i (suc c) (suc k) h = entry-in t (suc i) c k (omega arith) ∙ ap (entryIn t) (omega arith)
-
-entry-out : (t : Lists) (i c k : ℕ) → c ≤ k → getD (entriesFrom t i c) k noRun ≡ noRun
-unfolding entriesFrom
-entry-out t i zero k h = refl
-entry-out t i (suc c) zero h = absurd (omega arith)
-entry-out t i (suc c) (suc k) h = entry-out t (suc i) c k (omega arith)
-
-module _ (t : Lists) (c : ℕ) (field : Run → ℕ) (none : field noRun ≡ 0) (d : List ℕ) (is : (k : ℕ) → field (entryIn t k) ≡ getD d k 0) where
-  cut-field : (size : ℕ) → tabulate size (cutAt c d) ≡ tabulate size (λ k. field (entryOf (entries t c) k))
-  cut-field size = tabulate-same _ _ size (λ k h. go k (tri k c))
-    where
-      go : (k : ℕ) → Tri k c → cutAt c d k ≡ field (entryOf (entries t c) k)
-      go k (lt h) = sym (cut-in c d k h) ∙ sym (is k) ∙ ap field (ap (entryIn t) (omega arith) ∙ sym (entry-in t 0 c k h))
-      go k (eq h) = sym (cut-out c d k (omega arith)) ∙ sym none ∙ ap field (sym (entry-out t 0 c k (omega arith)))
-      go k (gt h) = sym (cut-out c d k (omega arith)) ∙ sym none ∙ ap field (sym (entry-out t 0 c k (omega arith)))
-
-pub cut-lists : (t : Lists) (c size : ℕ) → lists (tabulate size (cutAt c (t .starts))) (tabulate size (cutAt c (t .ends))) (tabulate size (cutAt c (t .periods))) ≡ listsOf (entries t c) size
-unfolding listsOf
-cut-lists t c size =
-    rw (cut-field t c (λ r. r .start) refl (t .starts) (λ k. refl) size, cut-field t c (λ r. r .end) refl (t .ends) (λ k. refl) size, cut-field t c (λ r. r .period) refl (t .periods) (λ k. refl) size)
-
 module _ (t : Lists) (c : ℕ) (before : Lists) where
-  abbrev l : List Run
-  l = entries t c
-
   abbrev size : ℕ
   size = length (before .starts)
 
-  count : c ≡ length l
-  count = entries-count t c refl
-
   -- the lists have fewer entries
-  pub left : size < c → Written l before before (NoValue TooManyRuns)
+  pub left : size < c → Written c t before before (NoValue TooManyRuns)
   left h =
-      let q : roomRefusal l size ≡ 13 = ap (λ b. numberIf b TooManyRuns) (lt-ltb size (length l) (omega (arith, count))) in
+      let q : roomRefusal c size ≡ 13 = ap (λ b. numberIf b TooManyRuns) (lt-ltb size c h) in
       record {
-        answers = answered-refused (roomRefusal l size) (length l) TooManyRuns (sym q);
-        leaves = sym (unless-refused (roomRefusal l size) (listsOf l size) before (λ z. omega (arith, q, z)));
+        answers = answered-refused (roomRefusal c size) c TooManyRuns (sym q);
+        leaves = sym (unless-refused (roomRefusal c size) (cut c t size) before (λ z. omega (arith, q, z)));
       }
 
   pub written : c ≤ size → {s e p : List ℕ} → s ≡ tabulate size (cutAt c (t .starts)) → e ≡ tabulate (length (before .ends)) (cutAt c (t .ends))
       → p ≡ tabulate (length (before .periods)) (cutAt c (t .periods)) → length (before .ends) ≡ size → length (before .periods) ≡ size
-      → {k : ℕ} → k ≡ c → Written l before (lists s e p) (Value k)
+      → {k : ℕ} → k ≡ c → Written c t before (lists s e p) (Value k)
   written h {s} {e} {p} a b d u v w =
-      let q : roomRefusal l size ≡ 0 = ap (λ b. numberIf b TooManyRuns) (le-ltb size (length l) (omega (arith, count))) in
-      let z : lists s e p ≡ listsOf l size = rw (a, b, d, u, v) (cut-lists t c size) in
+      let q : roomRefusal c size ≡ 0 = ap (λ b. numberIf b TooManyRuns) (le-ltb size c h) in
+      let z : lists s e p ≡ cut c t size = rw (a, b, d, u, v) in
       record {
-        answers = ap value (w ∙ count) ∙ answered-value (roomRefusal l size) (length l) q;
-        leaves = z ∙ sym (unless-taken (roomRefusal l size) (listsOf l size) before q);
+        answers = ap value w ∙ answered-value (roomRefusal c size) c q;
+        leaves = z ∙ sym (unless-taken (roomRefusal c size) (cut c t size) before q);
       }
 
--- ---- six tables
+-- ---- tables of n entries that hold the runs l
 
-pub all-cleared : {k v : ℕ} (t : List ℕ) → k ≡ 0 → v ≡ 0 → clearedFrom k v t ≡ zeros t
-all-cleared t p q = cleared-alike t p q ∙ cleared-all 0 t
+module _ (l : List Run) (n : ℕ) (few : length l ≤ n) where
+  module _ (field : Run → ℕ) (none : field noRun ≡ 0) where
+    abbrev table : ℕ → List ℕ
+    table size = tabulate size (λ k. field (entryOf l k))
 
-pub six-are : {a b c d e f a′ b′ c′ d′ e′ f′ : List ℕ} → a ≡ a′ → b ≡ b′ → c ≡ c′ → d ≡ d′ → e ≡ e′ → f ≡ f′ → workOf a b c d e f ≡ workOf a′ b′ c′ d′ e′ f′
-six-are p q r s u v = rw (p, q, r, s, u, v)
+    past : (k : ℕ) → length l ≤ k → field (entryOf l k) ≡ 0
+    past k h = ap field (List·getD-eq-default l noRun h) ∙ none
 
--- of the same lengths they are cleared alike
-pub cleared-six : {t : List (List ℕ)} {a b c d e f a₀ b₀ c₀ d₀ e₀ f₀ : ℕ}
-    → t ≡ workOf (replicate a 0) (replicate b 0) (replicate c 0) (replicate d 0) (replicate e 0) (replicate f 0) → a ≡ a₀ → b ≡ b₀ → c ≡ c₀ → d ≡ d₀ → e ≡ e₀ → f ≡ f₀
-    → t ≡ workOf (replicate a₀ 0) (replicate b₀ 0) (replicate c₀ 0) (replicate d₀ 0) (replicate e₀ 0) (replicate f₀ 0)
-cleared-six w p q r s u v = rw (p, q, r, s, u, v) at w
+    field-ends : Ended (length l) (table n)
+    field-ends =
+        let z = tabulate-length (λ k. field (entryOf l k)) n in
+        record { room = omega (arith, z); beyond = λ k h w. tabulate-entry (λ k. field (entryOf l k)) n k (omega (arith, z)) ∙ past k h }
+
+    cut-field : (size : ℕ) → tabulate size (cutAt (length l) (table n)) ≡ table size
+    cut-field size = tabulate-same _ _ size (λ k h. go k (tri k (length l)))
+      where
+        go : (k : ℕ) → Tri k (length l) → cutAt (length l) (table n) k ≡ field (entryOf l k)
+        go k (lt h) = sym (cut-in (length l) (table n) k h) ∙ tabulate-entry (λ k. field (entryOf l k)) n k (omega arith)
+        go k (eq h) = sym (cut-out (length l) (table n) k (omega arith)) ∙ sym (past k (omega arith))
+        go k (gt h) = sym (cut-out (length l) (table n) k (omega arith)) ∙ sym (past k (omega arith))
+
+  pub lists-end : Ended (length l) (listsOf l n .starts) × Ended (length l) (listsOf l n .periods) × Ended (length l) (listsOf l n .ends)
+  unfolding listsOf
+  lists-end = (field-ends (λ r. r .start) refl, field-ends (λ r. r .period) refl, field-ends (λ r. r .end) refl)
+
+  pub cut-lists : (size : ℕ) → cut (length l) (listsOf l n) size ≡ listsOf l size
+  unfolding listsOf
+  cut-lists size = rw (cut-field (λ r. r .start) refl size, cut-field (λ r. r .end) refl size, cut-field (λ r. r .period) refl size)
+
+pub lists-length : (l : List Run) (n : ℕ) → (length (listsOf l n .starts) ≡ n) × (length (listsOf l n .periods) ≡ n) × (length (listsOf l n .ends) ≡ n)
+unfolding listsOf
+lists-length l n = (tabulate-length _ n, tabulate-length _ n, tabulate-length _ n)
+
+-- ---- the first c entries are cleared
+
+all-zero : (c : ℕ) (t : List ℕ) → c ≤ length t → ((k : ℕ) → c ≤ k → k < length t → getD t k 0 ≡ 0) → clearedFrom 0 0 (take c t) ++ drop c t ≡ zeros t
+unfolding clearedFrom
+all-zero zero [] h q = refl
+all-zero zero (x ∷ t) h q = let e : x ≡ 0 = q 0 (omega arith) (omega arith) in rw e (ap (λ u. 0 ∷ u) (all-zero zero t (omega arith) (λ k a b. q (suc k) (omega arith) (omega arith))))
+all-zero (suc c) [] h q = absurd (omega arith)
+all-zero (suc c) (x ∷ t) h q = ap (λ u. 0 ∷ u) (all-zero c t (omega arith) (λ k a b. q (suc k) (omega arith) (omega arith)))
+
+pub first-cleared : {c : ℕ} {t : List ℕ} → Ended c t → {e : List ℕ} {k v : ℕ} → e ≡ clearedFrom k v (take c t) → k ≡ 0 → v ≡ 0 → e ++ drop c t ≡ zeros t
+first-cleared {c} {t} E w p q = ap (λ u. u ++ drop c t) (w ∙ cleared-alike (take c t) p q) ∙ all-zero c t (E .room) (E .beyond)

@@ -1,3 +1,2 @@
-pub mod States
 pub mod Lists
 pub mod Reported

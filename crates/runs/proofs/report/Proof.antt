@@ -4,18 +4,15 @@ use mathlib.Core.List.{List, map}
 use Prim.Native.Nat.{ℕ}
 use native.Mathlib.Omega.{arith}
 use lib.ListN.{length}
-use borrow.Author.Needs.{needs}
 use Rattle.suffix.specs.Ranks.{ranks}
 use Rattle.suffix.proofs.Ranks.{ranks-length}
-use Rattle.refusal.specs.Numbers.{verdictNumber}
-use Rattle.repeats.specs.Report.{runs}
+use Rattle.refusal.specs.declared.Refusal.the-variants.{TooLong, TableLength}
 use Rattle.repeats.specs.Refusals.{Lists, lengthsRefusal, lists}
-use Rattle.repeats.proofs.Gathering.{runs-most}
-use Rattle.runs.specs.States.{entries}
-use Rattle.runs.proofs.Inserting.{entries-count}
+use Rattle.roots.specs.WorkTables.{workRefusal}
+use Rattle.roots.proofs.Refusing as roots
+use Rattle.runs.specs.Lists.{Ended}
 use Rattle.runs.specs.Reported.{workOf}
-use Rattle.runs.proofs.Writing.{cleared-six}
-use Rattle.runs.proofs.Refusing.{Fitting, fitting, refused-by-lengths, reported}
+use Rattle.runs.proofs.Refusing.{says-work, says-twelve, says-twelve-too, says-none, refused-by-lengths, tables-end, reported}
 use Rattle.runs.proofs.report.Statement.{statement}
 use Rattle.runs.proofs.report.Tie as tie
 
@@ -30,96 +27,112 @@ work s = let g = s .args in workOf (g .previous .now) (g .next .now) (g .previou
 abbrev lent : tie.Start → Lists
 lent s = let g = s .args in lists (g .starts .now) (g .ends .now) (g .periods .now)
 
-abbrev by-lengths : tie.Start → ℕ → ℕ
-by-lengths s n = lengthsRefusal n (map length (work s)) (length (lent s .starts)) (length (lent s .ends)) (length (lent s .periods))
+abbrev refusal : tie.Start → ℕ → ℕ
+refusal s n = lengthsRefusal n (map length (work s)) (length (lent s .starts)) (length (lent s .ends)) (length (lent s .periods))
 
 -- as many ranks as letters
-same : (s : tie.Start) → by-lengths s (length (s .args .letters .now)) ≡ by-lengths s (length (y s))
-same s = ap (by-lengths s) (sym (ranks-length (s .args .letters .now)))
+same : (s : tie.Start) → refusal s (length (s .args .letters .now)) ≡ refusal s (length (y s))
+same s = ap (refusal s) (sym (ranks-length (s .args .letters .now)))
 
-verdict : (d : tie.After-verdict-on) → let s = d .before .before .before .before .before .before .before .before .before .before .before in verdictNumber (d .verdict-on .result) ≡ by-lengths s (length (y s))
-verdict d = d .verdict-on .ensures ∙ same (d .before .before .before .before .before .before .before .before .before .before .before)
+-- ---- the way back: all is cleared, the lists are written, the runs are counted and gathered, nothing is refused
 
--- ---- lengths refuse nothing
+abbrev written : tie.After-slice-known21 → tie.After-slice-known18
+written c = c .before .before .before .before .before .before .before .before .before .before .before .before
 
-abbrev start : tie.After-enum-told → tie.Start
-start m = m .before .before .before .before .before .before .before .before .before .before .before .before .before
+abbrev counted : tie.After-slice-known18 → tie.After-value-of
+counted w = w .before .before .before .before .before .before .before .before .before .before .before .before .before
 
-taken : (m : tie.After-enum-told) → by-lengths (start m) (length (start m .args .letters .now)) ≡ 0
-taken m = sym (m .before .before .verdict-on .ensures) ∙ ap verdictNumber (m .enum-told .given .1)
+abbrev gathered : tie.After-value-of → tie.After-slice-known15
+gathered v = v .before
 
-fits : (m : tie.After-enum-told)
-    → let g = start m .args in
-    Fitting (length (g .letters .now)) (length (g .previous .now)) (length (g .next .now)) (length (g .previous-match .now)) (length (g .next-match .now)) (length (g .reverse-next .now)) (length (g .reverse-match .now)) (length (g .starts .now)) (length (g .ends .now)) (length (g .periods .now))
-fits m = fitting _ _ _ _ _ _ _ _ _ _ (taken m)
+abbrev passed : tie.After-slice-known15 → tie.Else4
+passed q = q .before .before .before .before .before .before .before .before .before .before .before .before .before .before .before .before .before .before .before
 
--- ---- the runs are gathered, and written
+abbrev start : tie.Else4 → tie.Start
+start e = e .before .before .before .before .before .before .before .before .before .before .before .before .before .before .before
 
-abbrev told : tie.After-gather-all → tie.After-enum-told
-told g = g .before .before .before .before .before .before .before
+none : (o : tie.Else2) → let s = o .before .before .before .before .before .before .before .before .before .before .before .before .before in workRefusal (length (s .args .letters .now)) (map length (work s)) ≡ 0
+none o = let s = o .before .before .before .before .before .before .before .before .before .before .before .before .before in sym (roots.says-none (length (s .args .letters .now)) (map length (work s)) (omega arith) (o .before .any-off .ensures) (o .if2 .left) (omega arith))
 
-abbrev gathered : tie.After-write-lists → tie.After-gather-all
-gathered w = w .before .before .before .before .before .before .before .before .before .before .before .before .before .before .before .before .before .before .before
+taken : (e : tie.Else4) → let s = start e in refusal s (length (y s)) ≡ 0
+taken e = let s = start e in sym (same s) ∙ sym (says-none _ _ _ _ _ (none (e .before .before)) (omega arith) (omega arith) (omega arith))
 
--- as many as fit the tables
-count : (g : tie.After-gather-all) → g .gather-all .result ≡ length (runs (y (start (told g))))
-count g = entries-count _ _ (g .gather-all .ensures)
+-- the tables that hold the runs, and 0 beyond them
+ended : (v : tie.After-value-of) → let u = gathered v .before .before .before .before .before .before .before .before .before .before .before .before .gather .last .1 in let k = v .value-of .result in Ended k (u .0) × Ended k (u .1 .0) × Ended k (u .1 .1 .0)
+ended v = let q = gathered v in let e = passed q in let s = start e in tables-end (y s) (lent s) (taken e) (q .before .before .before .before .before .before .before .before .before .before .before .before .gather .ensures) (v .value-of .ensures)
+
+-- ---- the needs
 
 returns : tie.Need-returns
 returns c =
-    let s = c .before .before .before .before .before .before .before .before .before .before .before .before .before .before in
-    refused-by-lengths (y s) (work s) (lent s) _ (sym (ap verdictNumber (c .before .verdict .given .1)) ∙ verdict (c .before .before .before))
-
-gather-all-requires : tie.Need-gather-all-requires
-gather-all-requires c κs = let a = fits (c .before .before .before .before .before .before) in (a .few, (a .previous, a .next, a .previousMatch, a .nextMatch, a .reverseNext, a .reverseMatch))
-
-write-lists-requires : tie.Need-write-lists-requires
-write-lists-requires c κs =
-    let g = c .before .before .before .before .before .before .before .before .before .before .before .before .before .before .before .before .before .before in
-    let a = fits (told g) in
-    let n = count g in
-    let r = runs-most (y (start (told g))) in
-    let z = ranks-length (start (told g) .args .letters .now) in (
-      (omega (arith, n, r, z, a .previous, c .before .before .before .before .before .before .before .before .before .before .before .before .before .before .before .before .before .previous .given), omega (arith, n, r, z, a .previousMatch, c .before .before .before .before .before .before .before .before .before .before .before .before .before .previous-match .given), omega (arith, n, r, z, a .next, c .before .before .before .before .before .before .before .before .before .before .before .before .before .before .before .next .given)),
-      (a .as-ends, a .as-periods),
-    )
+    let s = c .before .before .before .before .before .before .before .before .before .before .before in
+    refused-by-lengths (y s) (work s) (lent s) _ (says-work _ _ _ _ _ TooLong (roots.says-one (length (s .args .letters .now)) (map length (work s)) (omega arith) (omega arith)) ∙ same s)
 
 returns-2 : tie.Need-returns-2
 returns-2 c =
-    let w = c .before .before .before .before .before .before .before .before .before .before .before .before .before .before .before .before .before .before .before .before .before .before .before .before .before in
-    let g = gathered w in
-    let s = start (told g) in
-    let u = g .gather-all .last .1 in
-    let v = c .before .before .before .before .before .before .before .before .before .before .before .before .clear-all .last in
-    reported (y s) (work s) (lent s) (sym (same s) ∙ taken (told g)) {l = entries (lists (u .0) (u .1 .1 .0) (u .1 .0)) (g .gather-all .result)} (g .gather-all .ensures)
-    {after = lists (w .write-lists .last .1 .1 .1 .1 .0) (w .write-lists .last .1 .1 .1 .1 .1 .0) (w .write-lists .last .1 .1 .1 .1 .1 .1 .0)} (w .write-lists .ensures)
-    {cleared = workOf (v .0) (v .1 .0) (v .1 .1 .0) (v .1 .1 .1 .0) (v .1 .1 .1 .1 .0) (v .1 .1 .1 .1 .1 .0)}
-    (cleared-six {t = workOf (v .0) (v .1 .0) (v .1 .1 .0) (v .1 .1 .1 .0) (v .1 .1 .1 .1 .0) (v .1 .1 .1 .1 .1 .0)} (c .before .before .before .before .before .before .before .before .before .before .before .before .clear-all .ensures)
-    (w .before .before .before .before .before .before .before .before .before .before .before .before .before .before .before .before .before .before .previous .given)
-    (w .before .before .before .before .before .before .before .before .before .before .before .before .before .before .before .before .next .given)
-    (w .before .before .before .before .before .before .before .before .before .before .before .before .before .before .previous-match .given)
-    (w .before .before .before .before .before .before .before .before .before .before .before .before .next-match .given)
-    (w .before .before .before .before .before .before .before .before .before .before .reverse-next .given)
-    (w .before .before .before .before .before .before .before .before .reverse-match .given))
+    let s = c .before .before .before .before .before .before .before .before .before .before .before .before .before in
+    refused-by-lengths (y s) (work s) (lent s) _
+    (says-work _ _ _ _ _ TableLength (roots.says-two (length (s .args .letters .now)) (map length (work s)) (omega arith) (c .before .any-off .ensures) (c .if2 .taken) (omega arith)) ∙ same s)
+
+returns-3 : tie.Need-returns-3
+returns-3 c =
+    let s = c .before .before .before .before .before .before .before .before .before .before .before .before .before .before in
+    refused-by-lengths (y s) (work s) (lent s) _ (says-twelve _ _ _ _ _ (none (c .before)) (omega arith) (omega arith) ∙ same s)
+
+returns-4 : tie.Need-returns-4
+returns-4 c =
+    let s = c .before .before .before .before .before .before .before .before .before .before .before .before .before .before .before in
+    refused-by-lengths (y s) (work s) (lent s) _ (says-twelve-too _ _ _ _ _ (none (c .before .before)) (omega arith) (omega arith) (omega arith) ∙ same s)
+
+write-lists-requires : tie.Need-write-lists-requires
+write-lists-requires c κs =
+    let v = c .before .before .before .before .before .before in
+    let e = passed (gathered v) in
+    let E = ended v in
+    ((E .0 .room, E .2 .room, E .1 .room), (omega (arith, e .before .if3 .left), omega (arith, e .if4 .left)))
+
+same-length : tie.Need-same-length
+same-length c = c .before .before .before .before .before .before .before .before .before .previous2 .given ∙ gathered (counted (written c)) .before .before .before .before .before .before .before .before .before .before .before .previous .given
+
+same-length-2 : tie.Need-same-length-2
+same-length-2 c = c .before .before .before .before .before .next2 .given ∙ gathered (counted (written c)) .before .before .before .before .before .before .before .before .before .next .given
+
+same-length-3 : tie.Need-same-length-3
+same-length-3 c = c .before .previous-match2 .given ∙ gathered (counted (written c)) .before .before .before .before .before .before .before .previous-match .given
+
+returns-5 : tie.Need-returns-5
+returns-5 c =
+    let w = written c in
+    let v = counted w in
+    let q = gathered v in
+    let e = passed q in
+    let s = start e in
+    let u = w .before .before .before .before .before .before .write-lists .last .1 .1 .1 .1 in
+    reported (y s) (lent s) (taken e) (q .before .before .before .before .before .before .before .before .before .before .before .before .gather .ensures) (v .value-of .ensures) {after = lists (u .0) (u .1 .0) (u .1 .1 .0)} (w .before .before .before .before .before .before .write-lists .ensures)
+    (c .before .before .before .before .before .before .before .before .before .before .clear-first .ensures) (c .before .before .before .before .before .before .clear-first2 .ensures) (c .before .before .clear-first3 .ensures)
 
 pub report-spec : {M : Type 1} → statement M
 report-spec =
     tie.close
     (tie.spec
-    (λ c κs. tt)
-    (λ c. search needs)
     returns
-    (λ c. search needs)
-    gather-all-requires
-    write-lists-requires
     (λ c κs. tt)
-    (λ c. c .before .before .before .before .before .before .before .before .before .before .before .previous2 .given ∙ c .before .before .before .before .before .before .before .before .before .before .before .before .before .before .before .before .before .before .before .before .before .before .before .before .before .before .before .before .before .before .before .before .before .before .before .before .before .before .before .before .before .before .before .previous .given)
-    (λ c. c .before .before .before .before .before .before .before .before .before .next2 .given ∙ c .before .before .before .before .before .before .before .before .before .before .before .before .before .before .before .before .before .before .before .before .before .before .before .before .before .before .before .before .before .before .before .before .before .before .before .before .before .before .before .before .before .next .given)
-    (λ c. c .before .before .before .before .before .before .before .previous-match2 .given ∙ c .before .before .before .before .before .before .before .before .before .before .before .before .before .before .before .before .before .before .before .before .before .before .before .before .before .before .before .before .before .before .before .before .before .before .before .before .before .before .before .previous-match .given)
-    (λ c. c .before .before .before .before .before .next-match2 .given ∙ c .before .before .before .before .before .before .before .before .before .before .before .before .before .before .before .before .before .before .before .before .before .before .before .before .before .before .before .before .before .before .before .before .before .before .before .before .before .next-match .given)
-    (λ c. c .before .before .before .reverse-next2 .given ∙ c .before .before .before .before .before .before .before .before .before .before .before .before .before .before .before .before .before .before .before .before .before .before .before .before .before .before .before .before .before .before .before .before .before .before .before .reverse-next .given)
-    (λ c. c .before .reverse-match2 .given ∙ c .before .before .before .before .before .before .before .before .before .before .before .before .before .before .before .before .before .before .before .before .before .before .before .before .before .before .before .before .before .before .before .before .before .reverse-match .given)
-    (λ c. c .before .before .before .before .before .before .before .before .before .before .before .before .before .before .before .before .before .before .before .before .before .before .before .before .starts .given)
-    (λ c. c .before .before .before .before .before .before .before .before .before .before .before .before .before .before .before .before .before .before .before .before .before .before .ends .given)
-    (λ c. c .before .before .before .before .before .before .before .before .before .before .before .before .before .before .before .before .before .before .before .before .periods .given)
-    returns-2)
+    returns-2
+    returns-3
+    returns-4
+    (λ c κs. tt)
+    (λ c κs. tt)
+    write-lists-requires
+    (λ c κs. ended (c .before .before .before .before .before .before .before .before .before .before .before .before .before .before) .0)
+    (λ c κs. ended (c .before .before .before .before .before .before .before .before .before .before .before .before .before .before .before .before .before .before) .1)
+    (λ c κs. ended (c .before .before .before .before .before .before .before .before .before .before .before .before .before .before .before .before .before .before .before .before .before .before) .2)
+    same-length
+    same-length-2
+    same-length-3
+    (λ c. gathered (counted (written c)) .before .before .before .before .before .next-match .given)
+    (λ c. gathered (counted (written c)) .before .before .before .reverse-next .given)
+    (λ c. gathered (counted (written c)) .before .reverse-match .given)
+    (λ c. written c .before .before .before .before .before .starts .given)
+    (λ c. written c .before .before .before .ends .given)
+    (λ c. written c .before .periods .given)
+    returns-5)

@@ -1,0 +1,2 @@
+pub mod WorkTables
+pub mod States

@@ -1,0 +1,342 @@
+// The runs to which the Lyndon roots of both orders lead, gathered in order: document 02, T-03.
+ghost use mathlib.Core.Path.{_≡_};
+ghost use mathlib.Core.Logic.{_≢_};
+ghost use mathlib.Core.Bool.{true, false};
+ghost use mathlib.Core.List.{[], _∷_};
+ghost use Prim.Native.Nat.{_+_, _-_, _≤_, _<_, min};
+ghost use lib.ListN.{length, getD};
+ghost use Rattle.suffix.specs.Ranks.{ranks};
+ghost use Rattle.repeats.specs.Report.{runs, before};
+ghost use Rattle.repeats.specs.Roots.{leftOf};
+ghost use Rattle.repeats.specs.Gathered.{reportOf};
+ghost use Rattle.repeats.specs.Refusals.{workLengthOff, lists};
+ghost use Rattle.roots.specs.WorkTables.{Gathered};
+ghost use Rattle.roots.specs.States.{runOf, entryIn, stored, Has, passes, Within, Judged, Insertable, Put, Tabled, cleared, Listed};
+use entries::clear_from;
+use refusal::Answer;
+use refusal::Refusal;
+
+// A run, or 0 three times for none.
+struct Run {
+    start: u32,
+    end: u32,
+    period: u32,
+}
+
+// The lesser of i and j - i + 1.
+fn most_left(i: usize, j: usize) -> usize
+    requires { ⌜ (i < j) × (j ≤ 1000000) ⌝ }
+    ensures { λ r. ⌜ r ≡ min i (j - i + 1) ⌝ }
+{
+    if j - i < i {
+        return j - i + 1;
+    }
+    i
+}
+
+// The letters before i that agree with those before j, j - i + 1 of them at the most.
+fn left_of(letters: &[u8], i: usize, j: usize) -> usize
+    requires { ⌜ (i < j) × (j ≤ length (now letters)) × (length (now letters) ≤ 1000000) ⌝ }
+    ensures { λ r. ⌜ r ≡ leftOf (ranks (now (letters .entry))) i j ⌝ }
+{
+    let most = most_left(i, j);
+    let mut x = 0;
+    while x < most {
+        let a = letters[i - 1 - x];
+        let b = letters[j - 1 - x];
+        // equal letters have equal ranks
+        if a != b {
+            let c = suffix::rank(a);
+            let d = suffix::rank(b);
+            if c != d {
+                return x;
+            }
+        }
+        x += 1;
+    }
+    x
+}
+
+// The left part at place i with next j and next-match m, where it reports a run, or 0.
+fn accepted_left(letters: &[u8], reverse: bool, i: usize, j: usize, m: usize) -> usize
+    requires { ⌜ Within (length (now letters)) i j m × (length (now letters) ≤ 1000000) ⌝ }
+    ensures { λ r. ⌜ Judged (ranks (now (letters .entry))) reverse i j m r ⌝ }
+{
+    let x = left_of(letters, i, j);
+    if x == 0 {
+        return 0;
+    }
+    if x > j - i {
+        return 0;
+    }
+    if x + m < j - i {
+        return 0;
+    }
+    if reverse {
+        if j + m == letters.len() {
+            return 0;
+        }
+    }
+    x
+}
+
+// What place i reports: j and m are its next and next-match under the order, k and l those under its reverse.
+fn report_of(letters: &[u8], i: usize, j: usize, m: usize, k: usize, l: usize) -> Run
+    requires { ⌜ Within (length (now letters)) i j m × Within (length (now letters)) i k l × (length (now letters) ≤ 1000000) ⌝ }
+    ensures { λ r. ⌜ runOf r ≡ reportOf (ranks (now (letters .entry))) i j m k l ⌝ }
+{
+    let x = accepted_left(letters, false, i, j, m);
+    if x > 0 {
+        return Run {
+            start: (i - x) as u32,
+            end: (j + m) as u32,
+            period: (j - i) as u32,
+        };
+    }
+    let z = accepted_left(letters, true, i, k, l);
+    if z > 0 {
+        return Run {
+            start: (i - z) as u32,
+            end: (k + l) as u32,
+            period: (k - i) as u32,
+        };
+    }
+    Run {
+        start: 0,
+        end: 0,
+        period: 0,
+    }
+}
+
+// Entry k.
+fn load(starts: &[u32], ends: &[u32], periods: &[u32], k: usize) -> Run
+    requires { ⌜ Has (lists (now starts) (now ends) (now periods)) k ⌝ }
+    ensures { λ r. ⌜ runOf r ≡ entryIn (lists (now (starts .entry)) (now (ends .entry)) (now (periods .entry))) k ⌝ }
+{
+    Run {
+        start: starts[k],
+        end: ends[k],
+        period: periods[k],
+    }
+}
+
+fn store(starts: &mut [u32], ends: &mut [u32], periods: &mut [u32], k: usize, run: Run)
+    requires { ⌜ Has (lists (now starts) (now ends) (now periods)) k ⌝ }
+    ensures { λ _.
+        ⌜ lists (now (starts .exit)) (now (ends .exit)) (now (periods .exit))
+        ≡ stored (lists (now (starts .entry)) (now (ends .entry)) (now (periods .entry))) k (runOf run) ⌝ }
+{
+    starts[k] = run.start;
+    ends[k] = run.end;
+    periods[k] = run.period;
+}
+
+// By start and then by period.
+fn comes_before(run: Run, other: Run) -> bool
+    ensures { λ r. ⌜ r ≡ before (runOf run) (runOf other) ⌝ }
+{
+    if run.start == other.start {
+        return run.period < other.period;
+    }
+    run.start < other.start
+}
+
+// Whether the run comes before the entry that is before place j.
+fn is_passed(starts: &[u32], ends: &[u32], periods: &[u32], j: usize, run: Run) -> bool
+    requires { ⌜ Has (lists (now starts) (now ends) (now periods)) j ⌝ }
+    ensures { λ r. ⌜ r ≡ passes (lists (now (starts .entry)) (now (ends .entry)) (now (periods .entry))) j (runOf run) ⌝ }
+{
+    if j == 0 {
+        return false;
+    }
+    let other = load(starts, ends, periods, j - 1);
+    comes_before(run, other)
+}
+
+// Moves the entry before place j to place j.
+fn move_up(starts: &mut [u32], ends: &mut [u32], periods: &mut [u32], j: usize)
+    requires { ⌜ Has (lists (now starts) (now ends) (now periods)) j × (0 < j) ⌝ }
+    ensures { λ _.
+        ⌜ lists (now (starts .exit)) (now (ends .exit)) (now (periods .exit))
+        ≡ stored (lists (now (starts .entry)) (now (ends .entry)) (now (periods .entry))) j
+        (entryIn (lists (now (starts .entry)) (now (ends .entry)) (now (periods .entry))) (j - 1)) ⌝ }
+{
+    starts[j] = starts[j - 1];
+    ends[j] = ends[j - 1];
+    periods[j] = periods[j - 1];
+}
+
+// Puts a run, if it is one, into the first `count` entries, where it belongs; they are then as many as is returned.
+fn insert(
+    starts: &mut [u32],
+    ends: &mut [u32],
+    periods: &mut [u32],
+    count: usize,
+    run: Run,
+) -> usize
+    requires { ⌜ Has (lists (now starts) (now ends) (now periods)) count × (count ≤ 1000000) ⌝ }
+    requires { ⌜ (runOf run .period ≢ 0 → Insertable (lists (now starts) (now ends) (now periods)) count (runOf run)) ⌝ }
+    ensures { λ r.
+        ⌜ Put count (runOf run) (lists (now (starts .entry)) (now (ends .entry)) (now (periods .entry)))
+        (lists (now (starts .exit)) (now (ends .exit)) (now (periods .exit)))
+        r ⌝ }
+{
+    if run.period == 0 {
+        return count;
+    }
+    let mut j = count;
+    while is_passed(starts, ends, periods, j, run) {
+        move_up(starts, ends, periods, j);
+        j -= 1;
+    }
+    store(starts, ends, periods, j, run);
+    count + 1
+}
+
+// An entry as an index.
+fn wide(x: u32) -> usize
+    ensures { λ r. ⌜ r ≡ x ⌝ }
+{
+    x as usize
+}
+
+fn read(table: &[u32], i: usize) -> usize
+    requires { ⌜ i < length (now table) ⌝ }
+    ensures { λ r. ⌜ r ≡ getD (now (table .entry)) i 0 ⌝ }
+{
+    wide(table[i])
+}
+
+// 0 in three tables from a place on.
+fn clear_three(starts: &mut [u32], ends: &mut [u32], periods: &mut [u32], from: usize)
+    ensures { λ _. ⌜ lists (now (starts .exit)) (now (ends .exit)) (now (periods .exit)) ≡ cleared from (lists (now (starts .entry)) (now (ends .entry)) (now (periods .entry))) ⌝ }
+{
+    clear_from(starts, from, 0);
+    clear_from(ends, from, 0);
+    clear_from(periods, from, 0);
+}
+
+// The runs of the letters in three tables, with 0 beyond, and their number. `periods` holds next at entry: a place reports one run at most, so
+// its next is read before it is written over.
+fn collect(
+    letters: &[u8],
+    starts: &mut [u32],
+    ends: &mut [u32],
+    periods: &mut [u32],
+    next_match: &[u32],
+    reverse_next: &[u32],
+    reverse_match: &[u32],
+) -> usize
+    requires { ⌜ (length (now letters) ≤ 1000000) × (length (now starts) ≡ length (now letters)) × (length (now ends) ≡ length (now letters)) ⌝ }
+    requires { ⌜ Tabled (ranks (now letters)) false (now periods) (now «next_match») ⌝ }
+    requires { ⌜ Tabled (ranks (now letters)) true (now «reverse_next») (now «reverse_match») ⌝ }
+    ensures { λ r. ⌜ Listed (runs (ranks (now (letters .entry)))) (length (now (letters .entry))) (lists (now (starts .exit)) (now (ends .exit)) (now (periods .exit))) r ⌝ }
+{
+    let mut count = 0;
+    let mut i = 0;
+    while i < letters.len() {
+        let next = read(periods, i);
+        let matched = read(next_match, i);
+        let other_next = read(reverse_next, i);
+        let other_matched = read(reverse_match, i);
+        let run = report_of(letters, i, next, matched, other_next, other_matched);
+        count = insert(starts, ends, periods, count, run);
+        i += 1;
+    }
+    clear_three(starts, ends, periods, count);
+    count
+}
+
+// next and next-match, in the order of the letters or in its reverse. The other two tables are the build's to use.
+fn tables_of(
+    letters: &[u8],
+    reverse: bool,
+    previous: &mut [u32],
+    next: &mut [u32],
+    previous_match: &mut [u32],
+    next_match: &mut [u32],
+)
+    requires { ⌜ length (now letters) ≤ 1000000 ⌝ }
+    requires { ⌜ (length (now previous) ≡ length (now letters)) × (length (now next) ≡ length (now letters)) × (length (now «previous_match») ≡ length (now letters)) × (length (now «next_match») ≡ length (now letters)) ⌝ }
+    ensures { λ _. ⌜ Tabled (ranks (now (letters .entry))) reverse (now (next .exit)) (now («next_match» .exit)) ⌝ }
+{
+    build::build_tables(letters, reverse, previous, next, previous_match, next_match);
+}
+
+// Whether one of six lengths is not n.
+pub fn any_off(n: usize, a: usize, b: usize, c: usize, d: usize, e: usize, f: usize) -> bool
+    ensures { λ r. ⌜ r ≡ workLengthOff n (a ∷ b ∷ c ∷ d ∷ e ∷ f ∷ []) ⌝ }
+{
+    if a != n {
+        return true;
+    }
+    if b != n {
+        return true;
+    }
+    if c != n {
+        return true;
+    }
+    if d != n {
+        return true;
+    }
+    if e != n {
+        return true;
+    }
+    if f != n {
+        return true;
+    }
+    false
+}
+
+// Gathers the runs of the letters in order: starts in `previous`, ends in `previous_match`, periods in `next`, with 0 beyond them and in the other
+// tables. Their number is returned. A refusal writes nothing.
+pub fn gather(
+    letters: &[u8],
+    previous: &mut [u32],
+    next: &mut [u32],
+    previous_match: &mut [u32],
+    next_match: &mut [u32],
+    reverse_next: &mut [u32],
+    reverse_match: &mut [u32],
+) -> Answer
+    ensures { λ r.
+        ⌜ Gathered (ranks (now (letters .entry)))
+        (now (previous .entry) ∷ now (next .entry) ∷ now («previous_match» .entry) ∷ now («next_match» .entry) ∷ now («reverse_next» .entry) ∷ now («reverse_match» .entry) ∷ [])
+        (now (previous .exit) ∷ now (next .exit) ∷ now («previous_match» .exit) ∷ now («next_match» .exit) ∷ now («reverse_next» .exit) ∷ now («reverse_match» .exit) ∷ [])
+        r ⌝ }
+{
+    if letters.len() > 1000000 {
+        return Answer::NoValue(Refusal::TooLong);
+    }
+    if any_off(
+        letters.len(),
+        previous.len(),
+        next.len(),
+        previous_match.len(),
+        next_match.len(),
+        reverse_next.len(),
+        reverse_match.len(),
+    ) {
+        return Answer::NoValue(Refusal::TableLength);
+    }
+    tables_of(letters, false, previous, next, previous_match, next_match);
+    tables_of(
+        letters,
+        true,
+        previous,
+        reverse_next,
+        previous_match,
+        reverse_match,
+    );
+    let count = collect(
+        letters,
+        previous,
+        previous_match,
+        next,
+        next_match,
+        reverse_next,
+        reverse_match,
+    );
+    clear_three(next_match, reverse_next, reverse_match, 0);
+    Answer::Value(count)
+}
