@@ -12,7 +12,7 @@ use Rattle.shape.specs.Claims.{AreBytes}
 use Rattle.suffix.proofs.Search.{tabulate-length}
 use Rattle.cabinet.specs.File.{Mark, LYN2, markBytes, markNumber, contentsEnd, contents, markedFile, cabinet, bodyBytes, bodyIn, countIn, markOf, countOf, lettersOf, endBefore, bodyOf, countsOf, bodiesOf}
 use Rattle.cabinet.specs.Refusals.{bodiesFlaw, treesFlaw, writeRefusal, Fitting}
-use Rattle.cabinet.specs.Claims.{Reads, RefusedReading, RefusedWriting, ReadOfAccepted, WrittenThenRead, WrittenIsAccepted, AcceptedThenWritten}
+use Rattle.cabinet.specs.Claims.{Reads, RefusedReading, RefusedWriting, ReadOfAccepted, WrittenThenRead, WrittenIsAccepted, BothMarksAreTaken, AcceptedThenWritten}
 use Rattle.cabinet.specs.LittleEndian.{fourBytes}
 use Rattle.cabinet.proofs.LittleEndian.{number-again}
 use Rattle.cabinet.proofs.Marks.{mark-some, one-mark, marked, mark-met}
@@ -97,6 +97,14 @@ writtenIsAccepted counts trees before after e z =
     let t = takes counts trees (length before) e in
     let w : after ≡ cabinet counts trees = z ∙ unless-taken _ _ _ e in
     rw w (accepts (cabinet counts trees) (written-accepted _ counts trees (t .fits) (t .sound)))
+
+pub bothMarksAreTaken : BothMarksAreTaken
+bothMarksAreTaken mark counts trees size e =
+    let t = takes counts trees size e in
+    record {
+      accepted = accepts (markedFile mark counts trees) (written-accepted mark counts trees (t .fits) (t .sound));
+      reads = λ k h. written-reads mark counts trees (t .fits) (t .sound) k h refl;
+    }
 
 -- ---- what is accepted, written again
 

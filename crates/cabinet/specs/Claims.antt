@@ -44,6 +44,15 @@ WrittenThenRead =
 abbrev pub WrittenIsAccepted : Type 0
 WrittenIsAccepted = (counts trees before after : List ℕ) → writeRefusal counts trees (length before) ≡ 0 → after ≡ writtenFile counts trees before → fileRefusal after ≡ 0
 
+-- T-04: "the reader takes both marks and says which it met": of whatever the writer takes, the file with either mark is accepted, and each entry is
+-- read from it
+pub record TakenWith (mark : Mark) (counts trees : List ℕ) : Type 0 where
+  pub accepted : fileRefusal (markedFile mark counts trees) ≡ 0
+  pub reads : (k : ℕ) → k < length counts → Reads (markedFile mark counts trees) k (markNumber mark) (countIn counts k) (bodyIn trees 0 (countIn counts) k)
+
+abbrev pub BothMarksAreTaken : Type 0
+BothMarksAreTaken = (mark : Mark) (counts trees : List ℕ) (size : ℕ) → writeRefusal counts trees size ≡ 0 → TakenWith mark counts trees
+
 -- "an accepted file written again is the same file": its letter counts and bodies, into a buffer of its size. T-04: "rewriting an accepted file
 -- gives the same bytes for `LYN2`". A file with either mark is taken, and has `LYN2` then; from its fifth byte on it is the same
 pub record WrittenAgain (file before : List ℕ) : Type 0 where
