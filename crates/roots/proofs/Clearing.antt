@@ -43,9 +43,9 @@ module _ (t : Lists) (c : ℕ) (field : Run → ℕ) (none : field noRun ≡ 0) 
       go k w (gt h) = behind k w (omega arith)
 
 -- 0 is written behind the first c entries
-pub listed : (t : Lists) {c : ℕ} {l : List Run} → entries t c ≡ l → {n : ℕ} → length (t .starts) ≡ n → length (t .ends) ≡ n → length (t .periods) ≡ n → {u : Lists} → u ≡ cleared c t → Listed l n u c
+pub listed : (t : Lists) {c : ℕ} {l : List Run} → entries t c ≡ l → {n : ℕ} → length (t .starts) ≡ n → length (t .ends) ≡ n → length (t .periods) ≡ n → {u : Lists} {k : ℕ} → u ≡ cleared k t → k ≡ c → Listed l n u c
 unfolding listsOf
-listed t {c} e {n} a b d {u} w =
+listed t {c} e {n} a b d w p =
     let are : cleared c t ≡ listsOf (entries t c) n =
     rw (cleared-field t c (λ r. r .start) refl (t .starts) (λ k. refl) a, cleared-field t c (λ r. r .end) refl (t .ends) (λ k. refl) b, cleared-field t c (λ r. r .period) refl (t .periods) (λ k. refl) d) in
-    record { number = entries-count t c e; tables = w ∙ are ∙ ap (λ m. listsOf m n) e }
+    record { number = entries-count t c e; tables = w ∙ ap (λ k. cleared k t) p ∙ are ∙ ap (λ m. listsOf m n) e }

@@ -208,12 +208,14 @@ fn read(table: &[u32], i: usize) -> usize
 }
 
 // 0 in three tables from a place on.
-fn clear_three(starts: &mut [u32], ends: &mut [u32], periods: &mut [u32], from: usize)
-    ensures { λ _. ⌜ lists (now (starts .exit)) (now (ends .exit)) (now (periods .exit)) ≡ cleared from (lists (now (starts .entry)) (now (ends .entry)) (now (periods .entry))) ⌝ }
+fn clear_three(first: &mut [u32], second: &mut [u32], third: &mut [u32], from: usize)
+    ensures { λ _.
+        ⌜ lists (now (first .exit)) (now (second .exit)) (now (third .exit))
+        ≡ cleared from (lists (now (first .entry)) (now (second .entry)) (now (third .entry))) ⌝ }
 {
-    clear_from(starts, from, 0);
-    clear_from(ends, from, 0);
-    clear_from(periods, from, 0);
+    clear_from(first, from, 0);
+    clear_from(second, from, 0);
+    clear_from(third, from, 0);
 }
 
 // The runs of the letters in three tables, with 0 beyond, and their number. `periods` holds next at entry: a place reports one run at most, so

@@ -1,4 +1,4 @@
--- The refusals, test by test.
+-- The refusals, test by test, and the ways out of the report.
 use mathlib.Core.Path.{_≡_, refl, sym, ap, _∙_}
 use mathlib.Core.Logic.{_≢_, _⊎_, inl, inr}
 use mathlib.Core.Bool.{Bool, true, false, not}
@@ -75,9 +75,9 @@ module _ (n : ℕ) (work : List ℕ) (starts ends periods : ℕ) where
   abbrev differ : Bool
   differ = listLengthsDiffer starts ends periods
 
-  pub says-work : (k : Refusal) → numberOf k ≡ workRefusal n work → numberOf k ≡ by-lengths
+  pub says-work : {k : ℕ} → k ≢ 0 → k ≡ workRefusal n work → k ≡ by-lengths
   unfolding workRefusal lengthsRefusal
-  says-work k e = e ∙ sym (work-first (tooLong n) (workLengthOff n work) differ (λ z. omega (arith, positive k, e, z)))
+  says-work h e = e ∙ sym (work-first (tooLong n) (workLengthOff n work) differ (λ z. h (e ∙ z)))
 
   module _ (w : workRefusal n work ≡ 0) where
     says : {k : ℕ} (b : Bool) → k ≡ numberIf b ListLengths → differ ≡ b → k ≡ by-lengths

@@ -113,7 +113,7 @@ pub fn report(
     if periods.len() != starts.len() {
         return Answer::NoValue(Refusal::ListLengths);
     }
-    // lengths that are taken here are taken there
+    // not refused: what it tests is tested above
     let gathered = roots::gather(
         letters,
         previous,

@@ -111,7 +111,7 @@ returns c =
     let d = c .before .before .before .before .before .before in
     let m = left d .before in
     let I = m .loop .inv in
-    listed (lists (m .loop .starts) (m .loop .ends) (m .loop .periods)) (gathering-done (bytes m) I (omega (arith, same m, left d .loop-test .left))) (I .starts ∙ same m) (I .ends ∙ same m) (I .periods ∙ same m) (d .clear-three .ensures)
+    listed (lists (m .loop .starts) (m .loop .ends) (m .loop .periods)) (gathering-done (bytes m) I (omega (arith, same m, left d .loop-test .left))) (I .starts ∙ same m) (I .ends ∙ same m) (I .periods ∙ same m) (d .clear-three .ensures) (omega arith)
 
 pub collect-spec : {M : Type 1} → statement M
 collect-spec =

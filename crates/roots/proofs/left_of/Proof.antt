@@ -46,13 +46,13 @@ returns : tie.Need-returns Inv-loop μ-loop
 returns c =
     let d = c .before .before .before .before in
     at-difference _ _ _ _ (head d .loop .inv) (omega arith)
-    (λ q. c .if2 .taken (at-left d (c .before .before .rank .ensures) ∙ q ∙ sym (at-right d (c .before .rank2 .ensures))))
+    (λ q. omega (arith, c .if2 .taken, at-left d (c .before .before .rank .ensures), at-right d (c .before .rank2 .ensures), q))
 
 loop-again : tie.Need-loop-again Inv-loop μ-loop
 loop-again c =
     let d = c .before in
     agree-more _ _ _ _ (head d .loop .inv) (omega arith) (omega arith)
-    (⊎-elim (λ w. sym (at-left d (w .1 .ensures)) ∙ w .3 .left ∙ at-right d (w .2 .ensures))
+    (⊎-elim (λ w. omega (arith, at-left d (w .1 .ensures), w .3 .left, at-right d (w .2 .ensures)))
     (λ w. ranks-same (letters d) (left d) (right d) (omega arith) (omega arith) (w .left))
     (c .if1 .came))
 

@@ -6,7 +6,6 @@ use native.Mathlib.Omega.{arith}
 use lib.ListN.{length}
 use Rattle.suffix.specs.Ranks.{ranks}
 use Rattle.suffix.proofs.Ranks.{ranks-length}
-use Rattle.refusal.specs.declared.Refusal.the-variants.{TooLong, TableLength}
 use Rattle.repeats.specs.Refusals.{Lists, lengthsRefusal, lists}
 use Rattle.roots.specs.WorkTables.{workRefusal}
 use Rattle.roots.proofs.Refusing as roots
@@ -66,13 +65,13 @@ ended v = let q = gathered v in let e = passed q in let s = start e in tables-en
 returns : tie.Need-returns
 returns c =
     let s = c .before .before .before .before .before .before .before .before .before .before .before in
-    refused-by-lengths (y s) (work s) (lent s) _ (says-work _ _ _ _ _ TooLong (roots.says-one (length (s .args .letters .now)) (map length (work s)) (omega arith) (omega arith)) ∙ same s)
+    refused-by-lengths (y s) (work s) (lent s) _ (says-work _ _ _ _ _ (omega arith) (roots.says-one (length (s .args .letters .now)) (map length (work s)) (omega arith) (omega arith)) ∙ same s)
 
 returns-2 : tie.Need-returns-2
 returns-2 c =
     let s = c .before .before .before .before .before .before .before .before .before .before .before .before .before in
     refused-by-lengths (y s) (work s) (lent s) _
-    (says-work _ _ _ _ _ TableLength (roots.says-two (length (s .args .letters .now)) (map length (work s)) (omega arith) (c .before .any-off .ensures) (c .if2 .taken) (omega arith)) ∙ same s)
+    (says-work _ _ _ _ _ (omega arith) (roots.says-two (length (s .args .letters .now)) (map length (work s)) (omega arith) (c .before .any-off .ensures) (c .if2 .taken) (omega arith)) ∙ same s)
 
 returns-3 : tie.Need-returns-3
 returns-3 c =
