@@ -1,4 +1,4 @@
--- By computation: the ranks at each bound of the small letters; and document 003, example 8: the Lyndon lengths of aabaabbabbab are 12 2 1 9 3 1 1 3 1 1 2 1.
+-- Document 003, example 8, by computation: the Lyndon lengths of aabaabbabbab are 12 2 1 9 3 1 1 3 1 1 2 1.
 use mathlib.Core.Path.{_≡_, refl}
 use mathlib.Core.List.{List, [], _∷_}
 use Prim.Native.Nat.{ℕ, _-_}
@@ -7,10 +7,6 @@ use Rattle.suffix.specs.Search.{greatestBelow, leastFrom, allBelow, tabu
 use Rattle.suffix.specs.Order.{lexLess, suffixLess}
 use Rattle.suffix.specs.Nearest.{next}
 use Rattle.suffix.specs.Lyndon.{isLyndon, part, longestLyndon}
-
-bounds : ranks (64 ∷ 65 ∷ 90 ∷ 91 ∷ 96 ∷ 97 ∷ 98 ∷ 121 ∷ 122 ∷ 123 ∷ 255 ∷ []) ≡ 64 ∷ 65 ∷ 90 ∷ 91 ∷ 96 ∷ 65 ∷ 66 ∷ 89 ∷ 90 ∷ 123 ∷ 255 ∷ []
-unfolding rank
-bounds = refl
 
 unfoldable word : List ℕ
 word = 97 ∷ 97 ∷ 98 ∷ 97 ∷ 97 ∷ 98 ∷ 98 ∷ 97 ∷ 98 ∷ 98 ∷ 97 ∷ 98 ∷ []

@@ -11,6 +11,11 @@ use Rattle.suffix.specs.Ranks.{rank, ranks, greatestRank, orientedFrom}
 use Rattle.suffix.specs.Claims.{NotSmall}
 use Rattle.suffix.proofs.Cases.{Tri, lt, eq, gt, tri}
 
+-- by computation, on both sides of each bound
+bounds : ranks (64 ∷ 65 ∷ 90 ∷ 91 ∷ 96 ∷ 97 ∷ 98 ∷ 121 ∷ 122 ∷ 123 ∷ 255 ∷ []) ≡ 64 ∷ 65 ∷ 90 ∷ 91 ∷ 96 ∷ 65 ∷ 66 ∷ 89 ∷ 90 ∷ 123 ∷ 255 ∷ []
+unfolding rank
+bounds = refl
+
 -- what the rank of a letter is, by its value
 pub data Ranked (letter : ℕ) : Type 0 where
   small : 97 ≤ letter → letter ≤ 122 → rank letter ≡ letter - 32 → Ranked letter
