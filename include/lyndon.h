@@ -204,8 +204,8 @@ LyndonReply lyndon_runs(const uint8_t *letters, size_t letters_length,
  * file's length: 8 bytes, and for each count n 8 and ceil(n / 4) bytes. Its mark is LYN2. Returns the refusal, or 0.
  *
  * Nothing can test by which order a tree was built. A tree that was built before version 3, as those of a LYN1 file were, is to be
- * written here only where its string has no small letter, or has none of the bytes 65 to 96: else the mark would tell the wrong
- * order. Such a string is built anew, or its LYN1 file kept as it is.
+ * written here only where its string has no small letter, or has none of the bytes 65 to 96: of any other string the mark would
+ * tell the wrong order, so it is built anew, or its LYN1 file is kept as it is.
  *
  * Refusals, in the order in which they are tested: 10, 1, 3 (for the trees or the file), then 6, 7, 8 tree by tree, so that the
  * first faulty tree decides.

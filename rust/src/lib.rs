@@ -457,8 +457,8 @@ pub fn cabinet_length(counts: &[u32]) -> usize {
 ///
 /// Nothing can test by which order of letters a tree was built. One that was built before version 3 of
 /// the library, as those of a file marked [`Mark::Lyn1`] were, is to be written here only where its string
-/// has no small letter, or has none of the bytes 65 to 96: else the mark would tell the wrong order. Such a
-/// string is built anew, or its file kept as it is.
+/// has no small letter, or has none of the bytes 65 to 96: of any other string the mark would tell the wrong
+/// order, so it is built anew, or its file, marked [`Mark::Lyn1`], is kept as it is.
 ///
 /// # Errors
 ///
