@@ -1,11 +1,10 @@
 -- The refusals, test by test, and the ways out of the report.
 use mathlib.Core.Path.{_≡_, refl, sym, ap, _∙_}
 use mathlib.Core.Logic.{_≢_, _⊎_, inl, inr}
-use mathlib.Core.Bool.{Bool, true, false, not}
+use mathlib.Core.Bool.{Bool, true, false}
 use mathlib.Core.List.{List, [], _∷_, _++_, map}
 use Prim.Native.Nat.{ℕ, _≤_}
 use native.Mathlib.Omega.{arith}
-use lib.Dec.{eqb}
 use lib.ListN.{length, getD, replicate}
 use borrow.Author.Tests.{eq-eqb, ne-eqb}
 use Rattle.refusal.specs.declared.Refusal.{Refusal}
@@ -15,8 +14,7 @@ use Rattle.refusal.specs.declared.Answer.the-variants.{NoValue}
 use Rattle.refusal.specs.Answers.{figuresOf, answered}
 use Rattle.refusal.specs.Numbers.{numberOf, numberIf, firstOf, unlessRefused}
 use Rattle.refusal.specs.Conditions.{tooLong}
-use Rattle.refusal.proofs.Numbers.{positive, neither, unless-taken}
-use Rattle.refusal.proofs.Tables.{not-off}
+use Rattle.refusal.proofs.Numbers.{positive, unless-taken}
 use Rattle.refusal.proofs.Answers.{answered-value, answered-refused}
 use Rattle.repeats.specs.Report.{runs}
 use Rattle.repeats.specs.Refusals.{Lists, lists, workLengthOff, listLengthsDiffer, tooManyRuns, lengthsRefusal, runsRefusal}
@@ -60,13 +58,13 @@ lengths-first false false true d h = (refl, omega arith)
 lengths-first false false false d h = absurd (h refl)
 
 -- with none of them 13 is left
-lengths-none : (a b c d : Bool) → firstOf (numbers a b c) ≡ 0 → (firstOf (two a b) ≡ 0) × (c ≡ false) × (firstOf (numbers a b c ++ numberIf d TooManyRuns ∷ []) ≡ numberIf d TooManyRuns)
+lengths-none : (a b c d : Bool) → firstOf (numbers a b c) ≡ 0 → (firstOf (two a b) ≡ 0) × (firstOf (numbers a b c ++ numberIf d TooManyRuns ∷ []) ≡ numberIf d TooManyRuns)
 unfolding firstOf
 lengths-none true b c d h = absurd (omega arith)
 lengths-none false true c d h = absurd (omega arith)
 lengths-none false false true d h = absurd (omega arith)
-lengths-none false false false true h = (refl, refl, refl)
-lengths-none false false false false h = (refl, refl, refl)
+lengths-none false false false true h = (refl, refl)
+lengths-none false false false false h = (refl, refl)
 
 module _ (n : ℕ) (work : List ℕ) (starts ends periods : ℕ) where
   abbrev by-lengths : ℕ
@@ -93,13 +91,9 @@ module _ (n : ℕ) (work : List ℕ) (starts ends periods : ℕ) where
     pub says-none : ends ≡ starts → periods ≡ starts → {k : ℕ} → k ≡ 0 → k ≡ by-lengths
     says-none e q z = says false z (rw (eq-eqb ends starts e, eq-eqb periods starts q))
 
-  -- where lengths refuse nothing
-  pub taken-lengths : by-lengths ≡ 0 → (workRefusal n work ≡ 0) × (ends ≡ starts) × (periods ≡ starts)
+  taken-work : by-lengths ≡ 0 → workRefusal n work ≡ 0
   unfolding workRefusal lengthsRefusal
-  taken-lengths h =
-      let L = lengths-none (tooLong n) (workLengthOff n work) differ false h in
-      let u = neither (not (eqb ends starts)) (not (eqb periods starts)) (L .1) in
-      (L .0, not-off ends starts (u .0), not-off periods starts (u .1))
+  taken-work h = lengths-none (tooLong n) (workLengthOff n work) differ false h .0
 
 -- ---- the two ways out
 
@@ -129,7 +123,7 @@ module _ (y : List ℕ) (work : List (List ℕ)) (lent : Lists) where
   module _ (taken : of-lengths ≡ 0) where
     room-left : number ≡ roomRefusal (length (runs y)) size
     unfolding lengthsRefusal runsRefusal
-    room-left = lengths-none (tooLong (length y)) (workLengthOff (length y) (map length work)) differ-in-length (tooManyRuns y size) taken .2
+    room-left = lengths-none (tooLong (length y)) (workLengthOff (length y) (map length work)) differ-in-length (tooManyRuns y size) taken .1
 
     writes-work : (number ≡ 0) ⊎ (number ≡ 13)
     writes-work = go (tooManyRuns y size) room-left
@@ -138,7 +132,7 @@ module _ (y : List ℕ) (work : List (List ℕ)) (lent : Lists) where
         go true e = inr e
         go false e = inl e
 
-    pub written-all : {after : Lists} {r : Answer} → Written (length (runs y)) (listsOf (runs y) (length y)) lent after r → {cleared : List (List ℕ)} → cleared ≡ map zeros work
+    written-all : {after : Lists} {r : Answer} → Written (length (runs y)) (listsOf (runs y) (length y)) lent after r → {cleared : List (List ℕ)} → cleared ≡ map zeros work
         → Reported y work lent cleared after r
     unfolding answer listsAfter
     written-all W w =
@@ -161,7 +155,7 @@ module _ (y : List ℕ) (lent : Lists) {g h i j k l a b c d e f : List ℕ}
   found = listsOf (runs y) n
 
   none : workRefusal n (map length (workOf g h i j k l)) ≡ 0
-  none = taken-lengths n (map length (workOf g h i j k l)) (length (lent .starts)) (length (lent .ends)) (length (lent .periods)) taken .0
+  none = taken-work n (map length (workOf g h i j k l)) (length (lent .starts)) (length (lent .ends)) (length (lent .periods)) taken
 
   all-counted : count ≡ length (runs y)
   all-counted = C ∙ ap valueOr0 (G .answers ∙ sym (answered-value (workRefusal n (map length (workOf g h i j k l))) (length (runs y)) none))
