@@ -116,6 +116,9 @@ lists-length l n = (tabulate-length _ n, tabulate-length _ n, tabulate-length _ 
 
 -- ---- the first c entries are cleared
 
+pub ended-at : {c k : ℕ} {t : List ℕ} → Ended c t → k ≡ c → Ended k t
+ended-at E e = rw e E
+
 all-zero : (c : ℕ) (t : List ℕ) → c ≤ length t → ((k : ℕ) → c ≤ k → k < length t → getD t k 0 ≡ 0) → clearedFrom 0 0 (take c t) ++ drop c t ≡ zeros t
 unfolding clearedFrom
 all-zero zero [] h q = refl

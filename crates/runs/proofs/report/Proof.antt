@@ -11,6 +11,7 @@ use Rattle.roots.specs.WorkTables.{workRefusal}
 use Rattle.roots.proofs.Refusing as roots
 use Rattle.runs.specs.Lists.{Ended}
 use Rattle.runs.specs.Reported.{workOf}
+use Rattle.runs.proofs.Writing.{ended-at}
 use Rattle.runs.proofs.Refusing.{says-work, says-twelve, says-twelve-too, says-none, refused-by-lengths, tables-end, reported}
 use Rattle.runs.proofs.report.Statement.{statement}
 use Rattle.runs.proofs.report.Tie as tie
@@ -122,9 +123,9 @@ report-spec =
     (λ c κs. tt)
     (λ c κs. tt)
     write-lists-requires
-    (λ c κs. ended (c .before .before .before .before .before .before .before .before .before .before .before .before .before .before) .0)
-    (λ c κs. ended (c .before .before .before .before .before .before .before .before .before .before .before .before .before .before .before .before .before .before) .1)
-    (λ c κs. ended (c .before .before .before .before .before .before .before .before .before .before .before .before .before .before .before .before .before .before .before .before .before .before) .2)
+    (λ c κs. ended-at (ended (c .before .before .before .before .before .before .before .before .before .before .before .before .before .before) .0) (omega arith))
+    (λ c κs. ended-at (ended (c .before .before .before .before .before .before .before .before .before .before .before .before .before .before .before .before .before .before) .1) (omega arith))
+    (λ c κs. ended-at (ended (c .before .before .before .before .before .before .before .before .before .before .before .before .before .before .before .before .before .before .before .before .before .before) .2) (omega arith))
     same-length
     same-length-2
     same-length-3
