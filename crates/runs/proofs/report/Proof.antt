@@ -45,21 +45,31 @@ counted w = w .before .before .before .before .before .before .before .before .b
 abbrev gathered : tie.After-value-of → tie.After-slice-known15
 gathered v = v .before
 
-abbrev passed : tie.After-slice-known15 → tie.Else4
-passed q = q .before .before .before .before .before .before .before .before .before .before .before .before .before .before .before .before .before .before .before
+abbrev call : tie.After-slice-known15 → tie.After-gather
+call q = q .before .before .before .before .before .before .before .before .before .before .before .before
+
+abbrev passed : tie.After-gather → tie.Else4
+passed g = g .before .before .before .before .before .before .before
+
+abbrev tested : tie.Else2 → tie.Start
+tested o = o .before .before .before .before .before .before .before .before .before .before .before .before .before
 
 abbrev start : tie.Else4 → tie.Start
-start e = e .before .before .before .before .before .before .before .before .before .before .before .before .before .before .before
+start e = tested (e .before .before)
 
-none : (o : tie.Else2) → let s = o .before .before .before .before .before .before .before .before .before .before .before .before .before in workRefusal (length (s .args .letters .now)) (map length (work s)) ≡ 0
-none o = let s = o .before .before .before .before .before .before .before .before .before .before .before .before .before in sym (roots.says-none (length (s .args .letters .now)) (map length (work s)) (omega arith) (o .before .any-off .ensures) (o .if2 .left) (omega arith))
+none : (o : tie.Else2) → let s = tested o in workRefusal (length (s .args .letters .now)) (map length (work s)) ≡ 0
+none o = let s = tested o in sym (roots.says-none (length (s .args .letters .now)) (map length (work s)) (omega arith) (o .before .any-off .ensures) (o .if2 .left) (omega arith))
 
 taken : (e : tie.Else4) → let s = start e in refusal s (length (y s)) ≡ 0
 taken e = let s = start e in sym (same s) ∙ sym (says-none _ _ _ _ _ (none (e .before .before)) (omega arith) (omega arith) (omega arith))
 
 -- the tables that hold the runs, and 0 beyond them
-ended : (v : tie.After-value-of) → let u = gathered v .before .before .before .before .before .before .before .before .before .before .before .before .gather .last .1 in let k = v .value-of .result in Ended k (u .0) × Ended k (u .1 .0) × Ended k (u .1 .1 .0)
-ended v = let q = gathered v in let e = passed q in let s = start e in tables-end (y s) (lent s) (taken e) (q .before .before .before .before .before .before .before .before .before .before .before .before .gather .ensures) (v .value-of .ensures)
+ended : (v : tie.After-value-of) → let u = call (gathered v) .gather .last .1 in let k = v .value-of .result in Ended k (u .0) × Ended k (u .1 .0) × Ended k (u .1 .1 .0)
+ended v =
+    let g = call (gathered v) in
+    let e = passed g in
+    let s = start e in
+    tables-end (y s) (lent s) (taken e) (g .gather .ensures) (v .value-of .ensures)
 
 -- ---- the needs
 
@@ -76,18 +86,18 @@ returns-2 c =
 
 returns-3 : tie.Need-returns-3
 returns-3 c =
-    let s = c .before .before .before .before .before .before .before .before .before .before .before .before .before .before in
+    let s = tested (c .before) in
     refused-by-lengths (y s) (work s) (lent s) _ (says-twelve _ _ _ _ _ (none (c .before)) (omega arith) (omega arith) ∙ same s)
 
 returns-4 : tie.Need-returns-4
 returns-4 c =
-    let s = c .before .before .before .before .before .before .before .before .before .before .before .before .before .before .before in
+    let s = tested (c .before .before) in
     refused-by-lengths (y s) (work s) (lent s) _ (says-twelve-too _ _ _ _ _ (none (c .before .before)) (omega arith) (omega arith) (omega arith) ∙ same s)
 
 write-lists-requires : tie.Need-write-lists-requires
 write-lists-requires c κs =
     let v = c .before .before .before .before .before .before in
-    let e = passed (gathered v) in
+    let e = passed (call (gathered v)) in
     let E = ended v in
     ((E .0 .room, E .2 .room, E .1 .room), (omega (arith, e .before .if3 .left), omega (arith, e .if4 .left)))
 
@@ -104,11 +114,11 @@ returns-5 : tie.Need-returns-5
 returns-5 c =
     let w = written c in
     let v = counted w in
-    let q = gathered v in
-    let e = passed q in
+    let g = call (gathered v) in
+    let e = passed g in
     let s = start e in
     let u = w .before .before .before .before .before .before .write-lists .last .1 .1 .1 .1 in
-    reported (y s) (lent s) (taken e) (q .before .before .before .before .before .before .before .before .before .before .before .before .gather .ensures) (v .value-of .ensures) {after = lists (u .0) (u .1 .0) (u .1 .1 .0)} (w .before .before .before .before .before .before .write-lists .ensures)
+    reported (y s) (lent s) (taken e) (g .gather .ensures) (v .value-of .ensures) {after = lists (u .0) (u .1 .0) (u .1 .1 .0)} (w .before .before .before .before .before .before .write-lists .ensures)
     (c .before .before .before .before .before .before .before .before .before .before .clear-first .ensures) (c .before .before .before .before .before .before .clear-first2 .ensures) (c .before .before .clear-first3 .ensures)
 
 pub report-spec : {M : Type 1} → statement M
@@ -123,9 +133,9 @@ report-spec =
     (λ c κs. tt)
     (λ c κs. tt)
     write-lists-requires
-    (λ c κs. ended-at (ended (c .before .before .before .before .before .before .before .before .before .before .before .before .before .before) .0) (omega arith))
-    (λ c κs. ended-at (ended (c .before .before .before .before .before .before .before .before .before .before .before .before .before .before .before .before .before .before) .1) (omega arith))
-    (λ c κs. ended-at (ended (c .before .before .before .before .before .before .before .before .before .before .before .before .before .before .before .before .before .before .before .before .before .before) .2) (omega arith))
+    (λ c κs. ended-at (ended (counted (c .before)) .0) (omega arith))
+    (λ c κs. ended-at (ended (counted (c .before .before .before .before .before)) .1) (omega arith))
+    (λ c κs. ended-at (ended (counted (c .before .before .before .before .before .before .before .before .before)) .2) (omega arith))
     same-length
     same-length-2
     same-length-3
