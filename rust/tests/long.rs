@@ -76,17 +76,11 @@ fn random_words_repeated() {
     }
 }
 
-/// Words of the first letters of the alphabet, so that they repeat further than a byte does.
 #[test]
 fn random_words_repeated_in_mixed_case() {
     let mut random = Random::new(18);
     for _ in 0..500 {
-        let n = 1 + random.below(2_000);
-        let (length, size) = (1 + random.below(20), 1 + random.below(3));
-        let word: Vec<u8> = (0..length)
-            .map(|_| b'a' + random.below(size) as u8)
-            .collect();
-        let letters = samples::in_random_case(&mut random, &samples::repeated(&word, n));
+        let letters = samples::word_repeated_in_random_case(&mut random);
         check_string(&mut random, &letters, 3);
     }
 }

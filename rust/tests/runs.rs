@@ -129,12 +129,7 @@ fn random_words_repeated() {
 fn random_words_repeated_in_mixed_case() {
     let mut random = Random::new(58);
     for _ in 0..500 {
-        let n = 1 + random.below(2_000);
-        let (length, size) = (1 + random.below(20), 1 + random.below(3));
-        let word: Vec<u8> = (0..length)
-            .map(|_| b'a' + random.below(size) as u8)
-            .collect();
-        let letters = samples::in_random_case(&mut random, &samples::repeated(&word, n));
+        let letters = samples::word_repeated_in_random_case(&mut random);
         check_string(&letters, &fast_runs::runs(&letters));
     }
 }

@@ -134,6 +134,17 @@ pub fn in_random_case(random: &mut Random, letters: &[u8]) -> Vec<u8> {
     letters.iter().map(masked).collect()
 }
 
+/// A word of at most 20 letters, of at most three that stand first in the alphabet, repeated in at most 2,000,
+/// each small or a capital at random: so it repeats further by its letters than by its bytes.
+pub fn word_repeated_in_random_case(random: &mut Random) -> Vec<u8> {
+    let n = 1 + random.below(2_000);
+    let (length, size) = (1 + random.below(20), 1 + random.below(3));
+    let word: Vec<u8> = (0..length)
+        .map(|_| b'a' + random.below(size) as u8)
+        .collect();
+    in_random_case(random, &repeated(&word, n))
+}
+
 /// The same letters, in turn some hundred of them as capitals and some hundred small, as a genome has them
 /// whose repeats are masked.
 pub fn in_blocks(random: &mut Random, letters: &[u8]) -> Vec<u8> {
