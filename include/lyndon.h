@@ -50,7 +50,7 @@
  * written need no lock.
  *
  * One position or many. A question (lyndon_previous, lyndon_next, lyndon_place) judges the whole tree each time, which takes
- * some 0.1 to 0.3 ms at 1,000,000 positions; lyndon_read gives all entries in 2 to 9 ms. For one position ask; for some dozens
+ * some 0.2 to 0.5 ms at 1,000,000 positions; lyndon_read gives all entries in 1 to 6 ms. For one position ask; for some dozens
  * or more read once, or build.
  */
 #ifndef LYNDON_H

@@ -17,6 +17,7 @@ const BUILD_ROUNDS: usize = 31;
 const RUNS_ROUNDS: usize = 31;
 const TREE_ROUNDS: usize = 101;
 const CABINET_ROUNDS: usize = 31;
+const SMALL_CALLS: usize = 10_000;
 
 /// Linux's `struct timespec` on x86-64.
 #[repr(C)]
@@ -342,9 +343,10 @@ fn compare_readings(trees: &[(&str, Vec<u8>)]) {
     }
 }
 
+type Library = fn(usize, &[u8], usize) -> Result<usize, lyndon::Refusal>;
+type Plain = fn(usize, &[u8], usize) -> Result<usize, u32>;
+
 fn compare_questions(trees: &[(&str, Vec<u8>)]) {
-    type Library = fn(usize, &[u8], usize) -> Result<usize, lyndon::Refusal>;
-    type Plain = fn(usize, &[u8], usize) -> Result<usize, u32>;
     let (middle, last) = (LETTERS / 2, LETTERS - 1);
     let questions: [(&str, usize, Library, Plain); 6] = [
         ("place", 0, lyndon::place, fast_brackets::place),
@@ -369,6 +371,49 @@ fn compare_questions(trees: &[(&str, Vec<u8>)]) {
                 comparison.row()
             );
         }
+    }
+}
+
+/// Each question put to every position of small trees in turn, and the trees read.
+fn compare_small_trees() {
+    let questions: [(&str, Library, Plain); 3] = [
+        ("place", lyndon::place, fast_brackets::place),
+        ("previous", lyndon::previous, fast_brackets::previous),
+        ("next", lyndon::next, fast_brackets::next),
+    ];
+    let mut random = Random::new(46);
+    let trees = [
+        (6, fast::structure(b"banana", 6).tree),
+        (40, samples::random_tree(&mut random, 40, 5)),
+        (1_000, samples::random_tree(&mut random, 1_000, 5)),
+    ];
+    println!("\nSmall trees, {SMALL_CALLS} calls a round, {TREE_ROUNDS} rounds.");
+    print_head(&format!("positions | call | {}", Comparison::COLUMNS));
+    for (n, tree) in trees {
+        for (question, library, plain) in questions {
+            let positions = || (0..n).cycle().take(SMALL_CALLS);
+            let ask = |i: usize| library(n, black_box(&tree), i).unwrap_or(n);
+            let ask_plain = |i: usize| plain(n, black_box(&tree), i).unwrap_or(n);
+            let comparison = Comparison::run(
+                TREE_ROUNDS,
+                &mut (),
+                |()| positions().map(ask).sum::<usize>(),
+                |()| positions().map(ask_plain).sum::<usize>(),
+            );
+            println!("| {n} | {question} | {} |", comparison.row());
+        }
+        let calls = || 0..SMALL_CALLS;
+        let comparison = Comparison::run(
+            TREE_ROUNDS,
+            &mut (vec![0; n], vec![0; n]),
+            |(previous, next)| {
+                calls().all(|_| lyndon::read(n, black_box(&tree), previous, next).is_ok())
+            },
+            |(previous, next)| {
+                calls().all(|_| fast_brackets::read(n, black_box(&tree), previous, next).is_ok())
+            },
+        );
+        println!("| {n} | read | {} |", comparison.row());
     }
 }
 
@@ -449,6 +494,7 @@ fn main() {
         let trees = trees();
         compare_readings(&trees);
         compare_questions(&trees);
+        compare_small_trees();
     }
     if asked("cabinets") {
         compare_cabinets(&trees());

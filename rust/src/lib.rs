@@ -14,8 +14,8 @@
 //! 'None' is written n, the number of letters. The match of two positions is the number of leading letters
 //! that the suffixes there share.
 //!
-//! A question ([`previous()`], [`next()`], [`place`]) judges the whole tree each time, which takes some 0.1
-//! to 0.3 ms at 1,000,000 positions; [`read`] gives all entries in 2 to 9 ms. For one position ask; for
+//! A question ([`previous()`], [`next()`], [`place`]) judges the whole tree each time, which takes some 0.2
+//! to 0.5 ms at 1,000,000 positions; [`read`] gives all entries in 1 to 6 ms. For one position ask; for
 //! some dozens or more read once, or build.
 //!
 //! ```

@@ -1,3 +1,4 @@
 pub mod Spare
 pub mod Answering
 pub mod Whole
+pub mod Filling

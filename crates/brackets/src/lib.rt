@@ -7,7 +7,9 @@ ghost use Rattle.refusal.specs.Numbers.{verdictNumber};
 ghost use Rattle.refusal.specs.Conditions.{spareBitSet, flawNumber, treeRefusal};
 ghost use Rattle.shape.specs.Shape.{previousTable, nextTable};
 ghost use Rattle.brackets.specs.Answers.{ReadBack};
+ghost use Rattle.brackets.specs.Steps.{filledOf, bracketFilled, Fillable};
 use excess::bit;
+use excess::is_open;
 use refusal::Refusal;
 use refusal::Verdict;
 use suffix::tree_length;
@@ -54,33 +56,56 @@ pub fn verdict_on(n: usize, tree: &[u8]) -> Verdict
     flaw(n, tree)
 }
 
-// Fills the tables of a tree that has no flaw, in one pass: the open positions are linked through their previous entries.
+// The innermost open position, n where none is open, and how many positions are opened.
+struct Open {
+    top: u32,
+    count: u32,
+}
+
+// One bracket: an opening hangs the next position under the innermost open one, a closing ends the innermost open one.
+fn fill_bracket(opening: bool, s: Open, previous: &mut [u32], next: &mut [u32]) -> Open
+    requires { ⌜ Fillable opening (filledOf s (now previous) (now next)) ⌝ }
+    ensures { λ r. ⌜ filledOf r (now (previous .exit)) (now (next .exit)) ≡ bracketFilled opening (filledOf s (now (previous .entry)) (now (next .entry))) ⌝ }
+{
+    let top = s.top as usize;
+    if opening {
+        previous[s.count as usize] = s.top;
+        return Open {
+            top: s.count,
+            count: s.count + 1,
+        };
+    }
+    next[top] = s.count;
+    Open {
+        top: previous[top],
+        count: s.count,
+    }
+}
+
+// Fills the tables of a tree that has no flaw, in one pass: the open positions are linked through their previous entries. No bit of a
+// whole byte is tested for the end.
 fn fill_tables(n: usize, tree: &[u8], previous: &mut [u32], next: &mut [u32])
     requires { ⌜ (n ≤ 1000000) × (length (now tree) ≡ treeLength n) × (length (now previous) ≡ n) × (length (now next) ≡ n) × (flawNumber n (now tree) ≡ 0) ⌝ }
     ensures { λ _. ⌜ (now (previous .exit) ≡ previousTable n (now (tree .entry))) × (now (next .exit) ≡ nextTable n (now (tree .entry))) ⌝ }
 {
-    let mut top = n as u32;
-    let mut i = 0u32;
+    let mut s = Open {
+        top: n as u32,
+        count: 0,
+    };
     let mut j = 0;
-    while j < tree.len() {
+    while j < n / 4 {
         let byte = tree[j];
         let mut m = 0;
         while m < 8 {
-            if 2 * n <= 8 * j + m {
-                return;
-            }
-            let opening = bit(byte, m);
+            s = fill_bracket(bit(byte, m), s, previous, next);
             m += 1;
-            if opening {
-                previous[i as usize] = top;
-                top = i;
-                i += 1;
-            } else {
-                next[top as usize] = i;
-                top = previous[top as usize];
-            }
         }
         j += 1;
+    }
+    let mut k = 8 * (n / 4);
+    while k < 2 * n {
+        s = fill_bracket(is_open(tree, k), s, previous, next);
+        k += 1;
     }
 }
 

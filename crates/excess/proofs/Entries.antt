@@ -1,4 +1,4 @@
--- An entry of a table of all 256 byte values.
+-- An entry of a table of all half bytes.
 use mathlib.Core.Path.{_≡_, ap, _∙_}
 use mathlib.Core.List.{List}
 use Prim.Native.Nat.{ℕ, zero, suc, _+_, _<_}
@@ -12,5 +12,5 @@ entry-from f i zero k h = absurd (omega arith)
 entry-from f i (suc t) zero h = ap f (omega arith)
 entry-from f i (suc t) (suc k) h = entry-from f (suc i) t k (omega arith) ∙ ap f (omega arith)
 
-pub entry : (f : ℕ → ℤ) (t : List ℤ) (b : ℕ) → b < 256 → t ≡ listFrom 0 256 f → getD t b (pos 0) ≡ f b
-entry f t b h e = ap (λ v. getD v b (pos 0)) e ∙ entry-from f 0 256 b h ∙ ap f (omega arith)
+pub entry : (f : ℕ → ℤ) (t : List ℤ) (h : ℕ) → h < 16 → t ≡ listFrom 0 16 f → getD t h (pos 0) ≡ f h
+entry f t h k e = ap (λ v. getD v h (pos 0)) e ∙ entry-from f 0 16 h k ∙ ap f (omega arith)

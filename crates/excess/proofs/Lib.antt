@@ -1,2 +1,6 @@
 pub mod Examples
 pub mod Entries
+pub mod Differences
+pub mod Sums
+pub mod Halves
+pub mod Bits

@@ -1,1 +1,2 @@
 pub mod Excess
+pub mod Claims

@@ -1,25 +1,25 @@
-// Bytes of brackets: a bit of them, and, for all 256 byte values, the signed sum and the lowest running sum of a byte's brackets.
+// Bytes of brackets: a bit of them, and, for each half byte, the signed sum and the lowest running sum of its brackets.
 ghost use mathlib.Core.Path.{_≡_};
 ghost use Prim.Native.Nat.{_%_};
 ghost use Rattle.refusal.specs.Conditions.{byteBit, bitOf};
-ghost use Rattle.excess.specs.Excess.{byteExcess, byteMinExcess};
+ghost use Rattle.excess.specs.Excess.{excesses, minExcesses};
 use tables::EXCESS;
 use tables::MIN_EXCESS;
 
-pub mod tables;
+mod tables;
 
-// The signed sum of a byte's brackets.
-pub fn byte_excess(byte: u8) -> i32
-    ensures { λ r. ⌜ r ≡ byteExcess byte ⌝ }
+// The signed sums of all half bytes.
+pub fn half_excesses() -> [i64; 16]
+    ensures { λ r. ⌜ r ≡ excesses ⌝ }
 {
-    EXCESS[byte as usize]
+    EXCESS
 }
 
-// The lowest running sum of a byte's brackets, the empty start included.
-pub fn byte_min_excess(byte: u8) -> i32
-    ensures { λ r. ⌜ r ≡ byteMinExcess byte ⌝ }
+// The lowest running sums of all half bytes, the empty start included.
+pub fn half_min_excesses() -> [i32; 16]
+    ensures { λ r. ⌜ r ≡ minExcesses ⌝ }
 {
-    MIN_EXCESS[byte as usize]
+    MIN_EXCESS
 }
 
 // The bit of a byte with weight 2 to the power (m mod 8).

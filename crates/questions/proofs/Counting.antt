@@ -10,9 +10,9 @@ use lib.Dec.{eqb}
 use lib.ListN.{length, getD}
 use lib.Pow.{shr-shr}
 use Rattle.suffix.specs.Search.{countBelow}
-use Rattle.refusal.specs.Conditions.{byteBit, bitOf}
-use Rattle.shape.specs.Heights.{opened, ones}
-use Rattle.search.proofs.Searching.{opened-byte}
+use Rattle.refusal.specs.Conditions.{byteBit, openings}
+use Rattle.excess.proofs.Sums.{ones}
+use Rattle.excess.proofs.Bits.{count-byte}
 
 -- a digit of b is counted
 counted : (b d : ℕ) → ones b (suc d) ≡ ones b d + b / 2 ^ d % 2
@@ -32,7 +32,7 @@ digits-apart b (suc d) =
     let z : b / 2 ^ d / 2 ≡ b / 2 ^ suc d = shr-shr b d 1 ∙ ap (λ k. b / 2 ^ k) (add-one d) in
     omega (arith, digits-apart b d, Count.ones-step (b / 2 ^ d), counted b d, ap Count.ones z)
 
-pub byte-ones : (b : ℕ) → b < 256 → Count.ones b ≡ ones b 8
+byte-ones : (b : ℕ) → b < 256 → Count.ones b ≡ ones b 8
 unfolding Count.ones Count.onesIn
 byte-ones b h =
     let z : b / 2 ^ 8 ≡ 0 = omega arith in
@@ -40,10 +40,10 @@ byte-ones b h =
 
 -- the openings from byte j on, up to bit e, are the set digits of w
 abbrev pub CountedFrom : List ℕ → ℕ → ℕ → ℕ → Type 0
-CountedFrom t j w e = opened (bitOf t) (8 * j) + Count.ones w ≡ opened (bitOf t) e
+CountedFrom t j w e = openings t (8 * j) + Count.ones w ≡ openings t e
 
 pub counted-byte : (t : List ℕ) (j : ℕ) → getD t j 0 < 256 → CountedFrom t j (getD t j 0) (8 * j + 8)
-counted-byte t j h = omega (arith, opened-byte t j 8 (omega arith), byte-ones (getD t j 0) h)
+counted-byte t j h = omega (arith, count-byte t j 8 (omega arith), byte-ones (getD t j 0) h)
 
 -- one byte more
 pub counted-joined : (t : List ℕ) (j k w e : ℕ) → k ≡ j + 1 → getD t j 0 < 256 → CountedFrom t k w e → CountedFrom t j (w * 256 + getD t j 0) e
@@ -54,10 +54,10 @@ counted-joined t j k w e q h c =
 -- so many bytes are passed, and so many openings are still to pass before the one that is looked for
 pub record Passing (t : List ℕ) (i byte left : ℕ) : Type 0 where
   pub within : byte ≤ length t
-  pub count : opened (bitOf t) (8 * byte) + left ≡ i
+  pub count : openings t (8 * byte) + left ≡ i
 
 -- m bytes more, with k openings
-pub passed-bytes : (m : ℕ) {t : List ℕ} {i byte left k : ℕ} → Passing t i byte left → byte + m ≤ length t → opened (bitOf t) (8 * byte) + k ≡ opened (bitOf t) (8 * byte + 8 * m) → k ≤ left → Passing t i (byte + m) (left - k)
+pub passed-bytes : (m : ℕ) {t : List ℕ} {i byte left k : ℕ} → Passing t i byte left → byte + m ≤ length t → openings t (8 * byte) + k ≡ openings t (8 * byte + 8 * m) → k ≤ left → Passing t i (byte + m) (left - k)
 passed-bytes m {t} {i} {byte} P h e w =
     let z : 8 * (byte + m) ≡ 8 * byte + 8 * m = omega arith in
     record { within = h; count = rw z (omega (arith, e, P .count)) }

@@ -1,27 +1,25 @@
 -- What the searches find, put to the tables of a tree.
 use mathlib.Core.Path.{_≡_, refl, sym, ap, _∙_}
-use mathlib.Core.Bool.{true, false, _&&_, true≢false}
+use mathlib.Core.Bool.{true, false, _&&_, true≢false, false≢true}
 use mathlib.Core.List.{List}
 use Prim.Native.Nat.{ℕ, suc, _+_, _-_, _*_, _/_, _≤_, _<_}
 use native.Mathlib.Omega.{arith}
 use lib.Dec.{eqb}
-use lib.IntN.{ℤ}
 use lib.ListN.{length, getD}
 use borrow.Author.Tests.{eq-eqb, eqb-true, eqb-false}
 use Rattle.suffix.specs.Tree.{treeLength}
-use Rattle.suffix.proofs.Cases.{Tri, lt, eq, gt, tri, Test, holds, fails, test, le-unless, both-true}
+use Rattle.suffix.proofs.Cases.{Test, holds, fails, test, le-unless, both-true}
 use Rattle.suffix.proofs.Search.{Least, found, absent, least}
 use Rattle.refusal.specs.Conditions.{bitOf, openings, flawNumber, questionRefusal}
 use Rattle.shape.specs.Shape.{previousTable, nextTable}
 use Rattle.refusal.specs.Answers.{value}
 use Rattle.questions.specs.Answers.{placeOf, placeAnswer}
-use Rattle.shape.specs.Heights.{opened}
-use Rattle.search.specs.Searching.{Fell, isMinus, Searched}
-use Rattle.shape.proofs.Heights.{opens, shuts, opened-grows, opening-one, Entry, ClosedAt, Encloses, by, root, closed-once, enclosed-once}
+use Rattle.search.specs.declared.Found.{Found}
+use Rattle.shape.proofs.Heights.{opened, opens, opened-grows, opening-one, Entry, ClosedAt, Encloses, by, root, closed-once, enclosed-once}
 use Rattle.shape.proofs.Reading.{Balanced}
 use Rattle.shape.proofs.Entries.{table-entry}
 use Rattle.refusal.proofs.Answers.{answered-told}
-use Rattle.search.proofs.Legs.{not-fallen, has-fallen}
+use Rattle.search.proofs.Laws.{TellsOn, TellsBack, fell, ended}
 use Rattle.shape.proofs.Conditions.{sound, question-1, question-3, question-5, question-flaw}
 
 -- a question that is not refused
@@ -82,60 +80,30 @@ module _ (n : ℕ) (t : List ℕ) (i : ℕ) (e : flawNumber n t ≡ 0) (inside :
   at-place : E .place ≡ k
   at-place = opening-one (bitOf t) (E .opening .is-open) bit (E .opening .number ∙ sym number)
 
+  opened-behind : opened (bitOf t) (k + 1) ≡ suc i
+  opened-behind = let z : k + 1 ≡ suc k = omega arith in ap (opened (bitOf t)) z ∙ opens (bitOf t) k bit ∙ ap suc number
+
   -- the closing bracket
-  pub next-found : {at : ℕ} {sum : ℤ} → Searched (bitOf t) (k + 1) 0 (2 * n) at sum → (k ≤ at) × (i + (at - k) / 2 ≡ getD (nextTable n t) i 0)
-  next-found {at} {sum} S = go (test (isMinus sum))
-    where
-      z : k + 1 ≡ suc k
-      z = omega arith
-
-      more : opened (bitOf t) (k + 1) ≡ suc i
-      more = ap (opened (bitOf t)) z ∙ opens (bitOf t) k bit ∙ ap suc number
-
-      go : Test (isMinus sum) → (k ≤ at) × (i + (at - k) / 2 ≡ getD (nextTable n t) i 0)
-      go (fails m) =
-          absurd (omega (arith, not-fallen S m .passed .clear (2 * n) (omega (arith, place-low)) (omega (arith, place-low)), more, B .closed, place-near, number))
-      go (holds m) =
-          let F : Fell (bitOf t) (k + 1) 0 at = has-fallen S m in
-          let w : k < at = omega (arith, S .between, place-low) in
-          let C : ClosedAt (bitOf t) k at =
-          record { after = w; within = λ j a b. rw z at (F .clear j (omega arith) (omega arith) (omega arith)); closes = rw z at (F .falls) } in
-          let c : E .close ≡ at = closed-once (bitOf t) (rw at-place at (E .closed)) C in
-          (omega arith, omega (arith, F .falls, more) ∙ sym (E .end ∙ ap (opened (bitOf t)) c))
+  pub next-found : {r : Found} → TellsOn (bitOf t) (k + 1) 0 (2 * n) r → (k ≤ r .at) × (r .at ≤ 2 * n) × (i + (r .at - k) / 2 ≡ getD (nextTable n t) i 0)
+  next-found (ended w e) = absurd (omega (arith, e .clear (2 * n) (omega (arith, place-low)) (omega arith), opened-behind, B .closed, place-near, number))
+  next-found (fell at h F) =
+      let z : k + 1 ≡ suc k = omega arith in
+      let C : ClosedAt (bitOf t) k at =
+      record { after = omega (arith, F .after); within = λ j a b. rw z at (F .clear j (omega arith) b); closes = rw z at (F .falls) } in
+      let c : E .close ≡ at = closed-once (bitOf t) (rw at-place at (E .closed)) C in
+      (omega (arith, F .after), h, omega (arith, F .after, F .falls, opened-behind) ∙ sym (E .end ∙ ap (opened (bitOf t)) c))
 
   -- the bracket around it
-  pub previous-found : {at : ℕ} {sum : ℤ} → Searched (bitOf t) k 0 0 at sum → isMinus sum ≡ true → (at ≤ k) × ((k - at + 1) / 2 ≤ i) × (i - (k - at + 1) / 2 ≡ getD (previousTable n t) i 0)
-  previous-found {at} {sum} S m =
-      let F : Fell (bitOf t) k 0 at = has-fallen S m in
-      let w : at ≤ k = omega (arith, S .between) in
-      let v : at < k = strict F w in
-      let P : getD (previousTable n t) i 0 ≡ opened (bitOf t) at = enclosed-once (bitOf t) (rw at-place at (E .enclosed)) (by at refl (around F v)) in
-      (w, omega (arith, F .falls, number), omega (arith, F .falls, number) ∙ sym P)
-    where
-      strict : Fell (bitOf t) k 0 at → at ≤ k → at < k
-      strict F w = go (tri at k)
-        where
-          go : Tri at k → at < k
-          go (lt u) = u
-          go (eq u) = absurd (omega (arith, F .falls, ap (opened (bitOf t)) u))
-          go (gt u) = absurd (omega arith)
+  pub previous-found : {r : Found} → TellsBack (bitOf t) k 0 r → r .fell ≡ true → (r .at ≤ k) × ((k - r .at + 1) / 2 ≤ i) × (i - (k - r .at + 1) / 2 ≡ getD (previousTable n t) i 0)
+  previous-found (fell at F) m =
+      let around : Encloses (bitOf t) at k = record { before = F .before; is-open = F .is-open; within = F .clear; opens-it = F .falls } in
+      let P : getD (previousTable n t) i 0 ≡ opened (bitOf t) at = enclosed-once (bitOf t) (rw at-place at (E .enclosed)) (by at refl around) in
+      (omega (arith, F .before), omega (arith, F .falls, number), omega (arith, F .before, F .falls, number) ∙ sym P)
+  previous-found (ended w e) m = absurd (false≢true m)
 
-      around : Fell (bitOf t) k 0 at → at < k → Encloses (bitOf t) at k
-      around F v =
-          record {
-            before = v;
-            is-open = go (test (bitOf t at));
-            within = λ j a b. F .clear j (omega arith) (omega arith) (omega arith);
-            opens-it = F .falls;
-          }
-        where
-          go : Test (bitOf t at) → bitOf t at ≡ true
-          go (holds e) = e
-          go (fails e) = absurd (omega (arith, shuts (bitOf t) at e, F .falls, F .clear (suc at) (omega arith) (omega arith) (omega arith)))
-
-  pub previous-none : {at : ℕ} {sum : ℤ} → Searched (bitOf t) k 0 0 at sum → isMinus sum ≡ false → n ≡ getD (previousTable n t) i 0
-  previous-none {at} {sum} S m =
-      sym (enclosed-once (bitOf t) (rw at-place at (E .enclosed)) (root refl (λ j h. not-fallen S m .passed .clear j (omega arith) (omega arith))))
+  pub previous-none : {r : Found} → TellsBack (bitOf t) k 0 r → r .fell ≡ false → n ≡ getD (previousTable n t) i 0
+  previous-none (fell at F) m = absurd (true≢false m)
+  previous-none (ended w e) m = sym (enclosed-once (bitOf t) (rw at-place at (E .enclosed)) (root refl (e .clear)))
 
 -- what place_of told: k is the opening of i
 pub record Placed (n : ℕ) (t : List ℕ) (i k : ℕ) : Type 0 where

@@ -4,9 +4,8 @@ ghost use mathlib.Core.Bool.{true};
 ghost use Prim.Native.Nat.{_+_, _*_, _≤_, _<_};
 ghost use lib.ListN.{length};
 ghost use lib.Count as Count;
-ghost use Rattle.refusal.specs.Conditions.{bitOf};
-ghost use Rattle.shape.specs.Heights.{opened, ones};
-use excess::is_open;
+ghost use Rattle.refusal.specs.Conditions.{bitOf, openings};
+use excess::bit;
 
 // A byte, and how many openings come between its start and the one that is looked for.
 struct Place {
@@ -15,7 +14,7 @@ struct Place {
 }
 
 fn openings_in(byte: u8) -> usize
-    ensures { λ r. ⌜ r ≡ ones byte 8 ⌝ }
+    ensures { λ r. ⌜ r ≡ Count.ones byte ⌝ }
 {
     u8::count_ones(byte) as usize
 }
@@ -31,7 +30,7 @@ fn joined(high: u64, byte: u8) -> u64
 // Four bytes as a number.
 fn four_bytes(tree: &[u8], j: usize) -> u64
     requires { ⌜ j + 4 ≤ length (now tree) ⌝ }
-    ensures { λ r. ⌜ (r < 4294967296) × (opened (bitOf (now (tree .entry))) (8 * j) + Count.ones r ≡ opened (bitOf (now (tree .entry))) (8 * j + 32)) ⌝ }
+    ensures { λ r. ⌜ (r < 4294967296) × (openings (now (tree .entry)) (8 * j) + Count.ones r ≡ openings (now (tree .entry)) (8 * j + 32)) ⌝ }
 {
     let high = joined(tree[j + 3] as u64, tree[j + 2]);
     joined(joined(high, tree[j + 1]), tree[j])
@@ -40,7 +39,7 @@ fn four_bytes(tree: &[u8], j: usize) -> u64
 // The openings in eight bytes.
 fn openings_in_eight(tree: &[u8], j: usize) -> usize
     requires { ⌜ j + 8 ≤ length (now tree) ⌝ }
-    ensures { λ r. ⌜ opened (bitOf (now (tree .entry))) (8 * j) + r ≡ opened (bitOf (now (tree .entry))) (8 * j + 64) ⌝ }
+    ensures { λ r. ⌜ openings (now (tree .entry)) (8 * j) + r ≡ openings (now (tree .entry)) (8 * j + 64) ⌝ }
 {
     u64::count_ones(four_bytes(tree, j + 4) * 4294967296 + four_bytes(tree, j)) as usize
 }
@@ -48,7 +47,7 @@ fn openings_in_eight(tree: &[u8], j: usize) -> usize
 // Passes whole groups of eight bytes, up to the one that has the opening number i.
 fn pass_eights(tree: &[u8], i: usize) -> Place
     requires { ⌜ length (now tree) ≤ 250000 ⌝ }
-    ensures { λ r. ⌜ (r .byte ≤ length (now (tree .entry))) × (opened (bitOf (now (tree .entry))) (8 * r .byte) + r .left ≡ i) ⌝ }
+    ensures { λ r. ⌜ (r .byte ≤ length (now (tree .entry))) × (openings (now (tree .entry)) (8 * r .byte) + r .left ≡ i) ⌝ }
 {
     let mut byte = 0;
     let mut left = i;
@@ -65,8 +64,8 @@ fn pass_eights(tree: &[u8], i: usize) -> Place
 
 // The byte of the opening number i.
 fn select_byte(tree: &[u8], i: usize) -> Place
-    requires { ⌜ (length (now tree) ≤ 250000) × (i < opened (bitOf (now tree)) (8 * length (now tree))) ⌝ }
-    ensures { λ r. ⌜ (r .byte < length (now (tree .entry))) × (opened (bitOf (now (tree .entry))) (8 * r .byte) + r .left ≡ i) ⌝ }
+    requires { ⌜ (length (now tree) ≤ 250000) × (i < openings (now tree) (8 * length (now tree))) ⌝ }
+    ensures { λ r. ⌜ (r .byte < length (now (tree .entry))) × (openings (now (tree .entry)) (8 * r .byte) + r .left ≡ i) × (i < openings (now (tree .entry)) (8 * r .byte + 8)) ⌝ }
 {
     let passed = pass_eights(tree, i);
     let mut byte = passed.byte;
@@ -84,24 +83,24 @@ fn select_byte(tree: &[u8], i: usize) -> Place
 
 // The bit place of the opening number i.
 pub(crate) fn select(tree: &[u8], i: usize) -> usize
-    requires { ⌜ (length (now tree) ≤ 250000) × (i < opened (bitOf (now tree)) (8 * length (now tree))) ⌝ }
-    ensures { λ r. ⌜ (r < 8 * length (now (tree .entry))) × (bitOf (now (tree .entry)) r ≡ true) × (opened (bitOf (now (tree .entry))) r ≡ i) ⌝ }
+    requires { ⌜ (length (now tree) ≤ 250000) × (i < openings (now tree) (8 * length (now tree))) ⌝ }
+    ensures { λ r. ⌜ (r < 8 * length (now (tree .entry))) × (bitOf (now (tree .entry)) r ≡ true) × (openings (now (tree .entry)) r ≡ i) ⌝ }
 {
     let p = select_byte(tree, i);
-    let end = 8 * tree.len();
-    let mut k = 8 * p.byte;
+    let j = p.byte;
+    let byte = tree[j];
     let mut left = p.left;
-    while k < end {
-        let opening = is_open(tree, k);
-        if opening {
+    let mut m = 0;
+    while m < 8 {
+        if bit(byte, m) {
             if left == 0 {
-                return k;
+                return 8 * j + m;
             }
             left -= 1;
-            k += 1;
+            m += 1;
         } else {
-            k += 1;
+            m += 1;
         }
     }
-    k
+    8 * j + m
 }

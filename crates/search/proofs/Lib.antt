@@ -1,6 +1,8 @@
-pub mod Searching
+pub mod Examples
+pub mod Walks
 pub mod Signed
-pub mod Going
-pub mod Legs
+pub mod Bytes
+pub mod On
+pub mod Back
+pub mod Within
 pub mod Laws
-pub mod Asked

@@ -13,8 +13,7 @@ use Rattle.suffix.proofs.Search.{any-true, any-false, any-not}
 use Rattle.suffix.specs.Tree.{treeLength}
 use Rattle.refusal.specs.Numbers.{lowest, lowestFrom}
 use Rattle.refusal.specs.Conditions.{bitOf, spareBitSet, openings, closings, closedTooEarly, leftOpen, flawNumber, treeRefusal, questionRefusal, readRefusal}
-use Rattle.shape.specs.Heights.{opened}
-use Rattle.shape.proofs.Heights.{opened-all}
+use Rattle.shape.proofs.Heights.{opened, opened-all}
 use Rattle.shape.proofs.Reading.{Balanced}
 
 module _ (n : ℕ) (t : List ℕ) where

@@ -1,12 +1,23 @@
 -- Bits as brackets: how many are open after k of them, by counting the openings; where a position opens, where it closes, and what encloses it.
 use mathlib.Core.Path.{_≡_, refl, sym, ap, _∙_}
 use mathlib.Core.Bool.{Bool, true, false, not}
-use Prim.Native.Nat.{ℕ, zero, suc, _+_, _≤_, _<_}
+use Prim.Native.Nat.{ℕ, zero, suc, _+_, _*_, _≤_, _<_}
 use native.Mathlib.Omega.{arith}
 use Rattle.suffix.specs.Search.{countBelow}
 use Rattle.suffix.proofs.Cases.{Same, same, other, same?, Test, holds, fails, test, le-unless}
 use Rattle.suffix.proofs.Search.{count-yes, count-no}
-use Rattle.shape.specs.Heights.{opened, Above, OneBelow}
+
+-- the openings among the first k bits; the closings are the others
+abbrev pub opened : (ℕ → Bool) → ℕ → ℕ
+opened g k = countBelow k g
+
+-- after j bits at most s brackets less are open than after a bits: with o openings k - o brackets of k are closings, so 2 o - k are open
+abbrev pub Above : (ℕ → Bool) → ℕ → ℕ → ℕ → Type 0
+Above g a s j = j + 2 * opened g a ≤ s + a + 2 * opened g j
+
+-- just s + 1 less
+abbrev pub OneBelow : (ℕ → Bool) → ℕ → ℕ → ℕ → Type 0
+OneBelow g a s j = j + 2 * opened g a ≡ s + a + 2 * opened g j + 1
 
 module _ (g : ℕ → Bool) where
   pub opened-none : opened g 0 ≡ 0

@@ -17,8 +17,7 @@ use Rattle.suffix.proofs.Written.{tree-length}
 use Rattle.refusal.specs.Conditions.{bitOf, flawNumber, treeRefusal}
 use Rattle.shape.specs.Shape.{size, parents, ends, IsTreeOf, shapeOf, previousTable, nextTable}
 use Rattle.shape.specs.Claims.{TreesHaveTables, TablesAreOne, TreesAreAccepted, EqualTablesEqualTrees, ReadsAs, FinishedTree, firstBytes, HaltedTree, HaltedTreeIsRefused}
-use Rattle.shape.specs.Heights.{opened}
-use Rattle.shape.proofs.Heights.{opened-none, shuts, entry-one}
+use Rattle.shape.proofs.Heights.{opened, opened-none, shuts, entry-one}
 use Rattle.shape.proofs.Shapes.{Laid, laid-end, laid-above, entries, parents-length, ends-length}
 use Rattle.shape.proofs.Parsing.{laid-from, laid-bit, ends-tell}
 use Rattle.shape.proofs.Reading.{Balanced}

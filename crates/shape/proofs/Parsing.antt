@@ -10,8 +10,7 @@ use Rattle.suffix.specs.Search.{countBelow}
 use Rattle.suffix.specs.Tree.{Forest, none, tree, parentheses}
 use Rattle.suffix.proofs.Cases.{Tri, lt, eq, gt, tri, Test, holds, fails, test}
 use Rattle.shape.specs.Shape.{size, ends, grow, forestsFrom, first}
-use Rattle.shape.specs.Heights.{opened, Above}
-use Rattle.shape.proofs.Heights.{opens, shuts}
+use Rattle.shape.proofs.Heights.{opened, Above, opens, shuts}
 use Rattle.shape.proofs.Shapes.{Laid, empty, node, laid-end, ends-length}
 
 module _ (g : ℕ → Bool) where

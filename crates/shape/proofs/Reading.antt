@@ -8,8 +8,7 @@ use native.Mathlib.Omega.{arith}
 use lib.ListN.{length, getD, set, length-set}
 use lib.Seq.{getD-set-same, getD-set-other}
 use Rattle.suffix.proofs.Cases.{Tri, lt, eq, gt, tri, Same, same, other, same?}
-use Rattle.shape.specs.Heights.{opened, Above}
-use Rattle.shape.proofs.Heights.{opened-none, opens, shuts, opened-grows, opening, opening-one, Opening, ClosedAt, Encloses, Enclosed, by, root, Entry}
+use Rattle.shape.proofs.Heights.{opened, Above, opened-none, opens, shuts, opened-grows, opening, opening-one, Opening, ClosedAt, Encloses, Enclosed, by, root, Entry}
 
 -- no first bits of the m hold more closings than openings, and all are closed
 pub record Balanced (g : ℕ → Bool) (m : ℕ) : Type 0 where

@@ -11,8 +11,7 @@ use Rattle.suffix.specs.Search.{countBelow}
 use Rattle.suffix.specs.Tree.{Forest, none, tree}
 use Rattle.suffix.proofs.Cases.{Tri, lt, eq, gt, tri, Same, same, other, same?}
 use Rattle.shape.specs.Shape.{size, parents, ends}
-use Rattle.shape.specs.Heights.{opened, Above}
-use Rattle.shape.proofs.Heights.{opens, shuts, ClosedAt, Encloses, Entry, by, root}
+use Rattle.shape.proofs.Heights.{opened, Above, opens, shuts, ClosedAt, Encloses, Entry, by, root}
 
 pub parents-length : (f : Forest) (i p : ℕ) → length (parents f i p) ≡ size f
 parents-length none i p = refl

@@ -1,3 +1,2 @@
-pub mod Heights
 pub mod Shape
 pub mod Claims

@@ -1,37 +1,35 @@
-//! A tree judged, read and questioned with a table over bytes, usable at 1,000,000 positions. The
+//! A tree judged, read and questioned with a table over half bytes, usable at 1,000,000 positions. The
 //! benchmark compares the library with this code.
 
 use crate::MAX_LETTERS;
 
-/// The sum of a byte's brackets, +1 for an opening and -1 for a closing from the lowest bit on, and the
-/// lowest running sum, the empty start included.
+/// The sum of a half byte's brackets, +1 for an opening and -1 for a closing from the lowest bit on, and
+/// the lowest running sum, the empty start included.
 #[derive(Debug, Clone, Copy, PartialEq, Eq)]
-pub struct ByteSums {
-    /// The sum.
-    pub total: i32,
-    /// The lowest running sum.
-    pub lowest: i32,
+struct Sums {
+    total: i32,
+    lowest: i32,
 }
 
-/// The sums of every byte value.
-pub static BYTE_SUMS: [ByteSums; 256] = byte_sums();
+/// The sums of every half byte.
+static HALF_SUMS: [Sums; 16] = half_sums();
 
-const fn byte_sums() -> [ByteSums; 256] {
-    let mut table = [ByteSums {
+const fn half_sums() -> [Sums; 16] {
+    let mut table = [Sums {
         total: 0,
         lowest: 0,
-    }; 256];
-    let mut byte = 0;
-    while byte < 256 {
+    }; 16];
+    let mut half = 0;
+    while half < 16 {
         let mut bit = 0;
-        while bit < 8 {
-            table[byte].total += step((byte >> bit) & 1 == 1);
-            if table[byte].total < table[byte].lowest {
-                table[byte].lowest = table[byte].total;
+        while bit < 4 {
+            table[half].total += step((half >> bit) & 1 == 1);
+            if table[half].total < table[half].lowest {
+                table[half].lowest = table[half].total;
             }
             bit += 1;
         }
-        byte += 1;
+        half += 1;
     }
     table
 }
@@ -42,6 +40,38 @@ const fn step(open: bool) -> i32 {
     } else {
         -1
     }
+}
+
+/// The sums of the lower and of the upper half of a byte.
+fn halves(byte: u8) -> [Sums; 2] {
+    [byte % 16, byte / 16].map(|half| HALF_SUMS[usize::from(half)])
+}
+
+/// The depth behind a byte, or none where it falls below 0 in it.
+fn behind(depth: i32, byte: u8) -> Option<i32> {
+    let [lower, upper] = halves(byte);
+    if depth + lower.lowest < 0 {
+        return None;
+    }
+    let middle = depth + lower.total;
+    if middle + upper.lowest < 0 {
+        return None;
+    }
+    Some(middle + upper.total)
+}
+
+/// The depth before a byte, or none where it falls below 0 on the way back through it.
+fn before(depth: i32, byte: u8) -> Option<i32> {
+    let [lower, upper] = halves(byte);
+    let middle = depth - upper.total;
+    if middle + upper.lowest < 0 {
+        return None;
+    }
+    let start = middle - lower.total;
+    if start + lower.lowest < 0 {
+        return None;
+    }
+    Some(start)
 }
 
 fn is_open(tree: &[u8], k: usize) -> bool {
@@ -68,11 +98,7 @@ fn judge_brackets(n: usize, tree: &[u8]) -> Result<(), u32> {
     }
     let mut depth = 0;
     for &byte in whole {
-        let sums = BYTE_SUMS[usize::from(byte)];
-        if depth + sums.lowest < 0 {
-            return Err(7);
-        }
-        depth += sums.total;
+        depth = behind(depth, byte).ok_or(7u32)?;
     }
     for k in 0..used {
         depth += step(is_open(rest, k));
@@ -175,25 +201,25 @@ fn opening(tree: &[u8], position: usize) -> usize {
 /// The place where the bracket opened at `open` closes.
 fn closing(tree: &[u8], open: usize) -> usize {
     let mut k = open + 1;
-    let mut depth = 1;
+    // The level at k, less that behind `open`.
+    let mut depth = 0;
     while !k.is_multiple_of(8) {
         depth += step(is_open(tree, k));
-        if depth == 0 {
+        if depth < 0 {
             return k;
         }
         k += 1;
     }
     for &byte in &tree[k / 8..] {
-        let sums = BYTE_SUMS[usize::from(byte)];
-        if depth + sums.lowest <= 0 {
+        let Some(level) = behind(depth, byte) else {
             break;
-        }
-        depth += sums.total;
+        };
+        depth = level;
         k += 8;
     }
     loop {
         depth += step(is_open(tree, k));
-        if depth == 0 {
+        if depth < 0 {
             return k;
         }
         k += 1;
@@ -213,11 +239,10 @@ fn parent(tree: &[u8], open: usize) -> Option<usize> {
         }
     }
     for &byte in tree[..k / 8].iter().rev() {
-        let sums = BYTE_SUMS[usize::from(byte)];
-        if depth - sums.total + sums.lowest < 0 {
+        let Some(level) = before(depth, byte) else {
             break;
-        }
-        depth -= sums.total;
+        };
+        depth = level;
         k -= 8;
     }
     while k > 0 {
@@ -254,22 +279,33 @@ mod tests {
         }
     }
 
+    /// The sum of a byte's brackets and the lowest running sum, bit by bit.
+    fn sums(byte: u8) -> Sums {
+        let (mut total, mut lowest) = (0, 0);
+        for bit in 0..8 {
+            total += step((byte >> bit) & 1 == 1);
+            lowest = lowest.min(total);
+        }
+        Sums { total, lowest }
+    }
+
     #[test]
     fn the_sums_of_hexadecimal_cd_are_2_and_0() {
-        assert_eq!(
-            BYTE_SUMS[0xcd],
-            ByteSums {
-                total: 2,
-                lowest: 0
+        let (total, lowest) = (2, 0);
+        assert_eq!(sums(0xcd), Sums { total, lowest });
+    }
+
+    #[test]
+    fn two_halves_make_every_byte() {
+        for byte in 0..=255 {
+            let Sums { total, lowest } = sums(byte);
+            for depth in 0..=9 {
+                let passed = (depth + lowest >= 0).then_some(depth + total);
+                assert_eq!(behind(depth, byte), passed);
+                let passed = (depth - total + lowest >= 0).then_some(depth - total);
+                assert_eq!(before(depth, byte), passed);
             }
-        );
-        assert_eq!(
-            BYTE_SUMS[0x00],
-            ByteSums {
-                total: -8,
-                lowest: -8
-            }
-        );
+        }
     }
 
     #[test]

@@ -4,14 +4,9 @@ use mathlib.Core.Bool.{false}
 use Prim.Native.Nat.{_*_}
 use native.Mathlib.Omega.{arith}
 use borrow.Author.Needs.{needs}
-use borrow.Author.Tests.{ltb-true, ltb-false}
-use lib.ListN.{length}
-use lib.Signed.{mag}
 use Rattle.refusal.specs.Conditions.{bitOf, spareBitSet}
 use Rattle.shape.proofs.Conditions.{flaw-6, flaw-7, flaw-8, flaw-0}
-use Rattle.search.specs.Searching.{isMinus, Finds}
-use Rattle.search.proofs.Signed.{zero-is}
-use Rattle.search.proofs.Asked.{is-within}
+use Rattle.search.proofs.Laws.{TellsOn, forward-tells}
 use Rattle.brackets.proofs.Whole.{whole-fell, whole-above, whole-closed, whole-open}
 use Rattle.brackets.proofs.flaw.Statement.{statement}
 use Rattle.brackets.proofs.flaw.Tie as tie
@@ -27,38 +22,31 @@ module _ (f : tie.After-forward) where
   spare : spareBitSet (s .args .n) (s .args .tree .now) ≡ false
   spare = sym (f .before .before .spare-bit-set .ensures) ∙ f .before .if1 .left
 
-  finds : Finds (bitOf (s .args .tree .now)) 0 (2 * s .args .n) (f .forward .result)
-  finds = f .forward .ensures .finds (is-within (length (s .args .tree .now)) 0 (2 * s .args .n) (omega arith) (omega arith) (omega arith))
+  tells : TellsOn (bitOf (s .args .tree .now)) 0 0 (2 * s .args .n) (f .forward .result)
+  tells =
+      forward-tells (s .args .tree .now) 0 (2 * s .args .n) (record { few = omega arith; inside = omega arith; ordered = omega arith }) (f .forward .ensures)
 
 returns-2 : tie.Need-returns-2
 returns-2 c =
     let f = c .before in
-    let F = finds f in
     let n = s f .args .n in
     let t = s f .args .tree .now in
-    sym (flaw-7 n t (spare f) (whole-fell n t (F .searched) (sym (F .fell) ∙ c .if2 .taken)))
-
--- the sum does not fall
-not-minus : (c : tie.Else2) → isMinus (finds (c .before) .sum) ≡ false
-not-minus c = sym (finds (c .before) .fell) ∙ c .if2 .left
+    sym (flaw-7 n t (spare f) (whole-fell n t (tells f) (c .if2 .taken)))
 
 returns-3 : tie.Need-returns-3
 returns-3 c =
     let f = c .before .before in
-    let F = finds f in
-    let m = not-minus (c .before) in
     let n = s f .args .n in
     let t = s f .args .tree .now in
-    sym (flaw-0 n t (spare f) (whole-above n t (F .searched) m) (whole-closed n t (F .searched) m (ltb-true (mag (F .sum)) 1 (sym (F .closed ∙ zero-is (F .sum) m) ∙ c .if3 .taken))))
+    sym (flaw-0 n t (spare f) (whole-above n t (tells f) (c .before .if2 .left)) (whole-closed n t (tells f) (c .if3 .taken)))
 
 returns-4 : tie.Need-returns-4
 returns-4 c =
     let f = c .before .before in
-    let F = finds f in
-    let m = not-minus (c .before) in
     let n = s f .args .n in
     let t = s f .args .tree .now in
-    sym (flaw-8 n t (spare f) (whole-above n t (F .searched) m) (whole-open n t (F .searched) m (ltb-false (mag (F .sum)) 1 (sym (F .closed ∙ zero-is (F .sum) m) ∙ c .if3 .left))))
+    let m = c .before .if2 .left in
+    sym (flaw-8 n t (spare f) (whole-above n t (tells f) m) (whole-open n t (tells f) m (c .if3 .left)))
 
 pub flaw-spec : {M : Type 1} → statement M
 flaw-spec = tie.close (tie.spec (λ c κs. search needs) returns (λ c. search needs) (λ c κs. tt) returns-2 returns-3 returns-4)

@@ -3,11 +3,10 @@ use mathlib.Core.Path.{_≡_, sym, ap, _∙_}
 use Prim.Native.Nat.{_+_, _-_, _*_, _/_, _≤_}
 use native.Mathlib.Omega.{arith}
 use borrow.Author.Needs.{needs}
-use lib.ListN.{length, getD}
-use Rattle.refusal.specs.Conditions.{bitOf, questionRefusal}
+use lib.ListN.{getD}
+use Rattle.refusal.specs.Conditions.{questionRefusal}
 use Rattle.shape.specs.Shape.{nextTable}
-use Rattle.search.specs.Searching.{Finds}
-use Rattle.search.proofs.Asked.{is-within}
+use Rattle.search.proofs.Laws.{forward-tells}
 use Rattle.refusal.specs.Answers.{value, figuresOf}
 use Rattle.questions.specs.Answers.{placeOf, placeAnswer, nextAnswer}
 use Rattle.refusal.proofs.Answers.{answered-value, refused-alike}
@@ -43,19 +42,16 @@ mul-forward : tie.Need-mul-forward
 mul-forward c = omega (arith, at-place c .asked .small)
 
 -- the search behind the opening
-finds : (f : tie.After-forward) → let s = start (f .before) in let k = f .before .before .found .given .0 .0 in Finds (bitOf (s .args .tree .now)) (k + 1) (2 * s .args .n) (f .forward .result)
-finds f =
-    let s = start (f .before) in
-    let p = at-place (f .before) in
-    f .forward .ensures .finds
-    (is-within (length (s .args .tree .now)) (f .before .before .found .given .0 .0 + 1) (2 * s .args .n) (omega (arith, p .asked .small, p .asked .bytes)) (omega (arith, p .asked .bytes)) (omega (arith, p .low)))
-
 next : (f : tie.After-forward) → let s = start (f .before) in let k = f .before .before .found .given .0 .0 in
-    (k ≤ f .forward .result .at) × (s .args .position + (f .forward .result .at - k) / 2 ≡ getD (nextTable (s .args .n) (s .args .tree .now)) (s .args .position) 0)
+    (k ≤ f .forward .result .at) × (f .forward .result .at ≤ 2 * s .args .n) × (s .args .position + (f .forward .result .at - k) / 2 ≡ getD (nextTable (s .args .n) (s .args .tree .now)) (s .args .position) 0)
 next f =
     let s = start (f .before) in
     let p = at-place (f .before) in
-    next-found (s .args .n) (s .args .tree .now) (s .args .position) (p .asked .whole) (p .asked .inside) (f .before .before .found .given .0 .0) (p .is-open) (p .number) (finds f .searched)
+    let k = f .before .before .found .given .0 .0 in
+    next-found (s .args .n) (s .args .tree .now) (s .args .position) (p .asked .whole) (p .asked .inside) k (p .is-open) (p .number)
+    (forward-tells (s .args .tree .now) (k + 1) (2 * s .args .n)
+    (record { few = omega (arith, p .asked .small, p .asked .bytes); inside = omega (arith, p .asked .bytes); ordered = omega (arith, p .low) })
+    (f .forward .ensures))
 
 sub-t8 : tie.Need-sub-t8
 sub-t8 c = next (c .before) .0
@@ -63,14 +59,14 @@ sub-t8 c = next (c .before) .0
 add-t10 : tie.Need-add-t10
 add-t10 c =
     let p = at-place (c .before .before) in
-    omega (arith, finds (c .before) .searched .between, p .low, p .asked .small, p .asked .inside)
+    omega (arith, next (c .before) .1, p .asked .small, p .asked .inside)
 
 returns-2 : tie.Need-returns-2
 unfolding nextAnswer
 returns-2 c =
     let s = start (c .before .before) in
     let p = at-place (c .before .before) in
-    ap value (omega (arith, next (c .before) .1)) ∙ answered-value (questionRefusal (s .args .n) (s .args .tree .now) (s .args .position)) (getD (nextTable (s .args .n) (s .args .tree .now)) (s .args .position) 0) (p .asked .none)
+    ap value (omega (arith, next (c .before) .2)) ∙ answered-value (questionRefusal (s .args .n) (s .args .tree .now) (s .args .position)) (getD (nextTable (s .args .n) (s .args .tree .now)) (s .args .position) 0) (p .asked .none)
 
 pub next-of-spec : {M : Type 1} → statement M
 next-of-spec =

@@ -3,11 +3,10 @@ use mathlib.Core.Path.{_≡_, sym, ap, _∙_}
 use Prim.Native.Nat.{_+_, _-_, _/_, _≤_}
 use native.Mathlib.Omega.{arith}
 use borrow.Author.Needs.{needs}
-use lib.ListN.{length, getD}
+use lib.ListN.{getD}
 use Rattle.refusal.specs.Conditions.{bitOf, questionRefusal}
 use Rattle.shape.specs.Shape.{previousTable}
-use Rattle.search.specs.Searching.{Finds}
-use Rattle.search.proofs.Asked.{is-within}
+use Rattle.search.proofs.Laws.{TellsBack, backward-tells}
 use Rattle.refusal.specs.Answers.{value, figuresOf}
 use Rattle.questions.specs.Answers.{placeOf, placeAnswer, previousAnswer}
 use Rattle.refusal.proofs.Answers.{answered-value, refused-alike}
@@ -37,12 +36,11 @@ returns c =
     (q .place-of .ensures)
 
 -- the search back from the opening
-finds : (f : tie.After-backward) → let s = start (f .before) in let k = f .before .before .found .given .0 .0 in Finds (bitOf (s .args .tree .now)) k 0 (f .backward .result)
-finds f =
-    let s = start (f .before) in
+tells : (f : tie.After-backward) → let s = start (f .before) in TellsBack (bitOf (s .args .tree .now)) (f .before .before .found .given .0 .0) 0 (f .backward .result)
+tells f =
     let p = at-place (f .before) in
-    f .backward .ensures .finds
-    (is-within (length (s .args .tree .now)) 0 (f .before .before .found .given .0 .0) (omega (arith, p .asked .small, p .asked .bytes)) (omega (arith, p .low, p .asked .bytes)) (omega arith))
+    backward-tells (start (f .before) .args .tree .now) (f .before .before .found .given .0 .0)
+    (record { few = omega (arith, p .asked .small, p .asked .bytes); inside = omega (arith, p .low, p .asked .bytes); ordered = omega arith }) (f .backward .ensures)
 
 previous : (c : tie.Then1) → let f = c .before in let s = start (f .before) in let k = f .before .before .found .given .0 .0 in
     (f .backward .result .at ≤ k) × ((k - f .backward .result .at + 1) / 2 ≤ s .args .position)
@@ -51,7 +49,7 @@ previous c =
     let f = c .before in
     let s = start (f .before) in
     let p = at-place (f .before) in
-    previous-found (s .args .n) (s .args .tree .now) (s .args .position) (p .asked .whole) (p .asked .inside) (f .before .before .found .given .0 .0) (p .is-open) (p .number) (finds f .searched) (sym (finds f .fell) ∙ c .if1 .taken)
+    previous-found (s .args .n) (s .args .tree .now) (s .args .position) (p .asked .whole) (p .asked .inside) (f .before .before .found .given .0 .0) (p .is-open) (p .number) (tells f) (c .if1 .taken)
 
 sub-t10 : tie.Need-sub-t10
 sub-t10 c = previous (c .before) .0
@@ -77,7 +75,7 @@ returns-3 c =
     let f = c .before in
     let s = start (f .before) in
     let p = at-place (f .before) in
-    ap value (previous-none (s .args .n) (s .args .tree .now) (s .args .position) (p .asked .whole) (p .asked .inside) (f .before .before .found .given .0 .0) (p .is-open) (p .number) (finds f .searched) (sym (finds f .fell) ∙ c .if1 .left))
+    ap value (previous-none (s .args .n) (s .args .tree .now) (s .args .position) (p .asked .whole) (p .asked .inside) (f .before .before .found .given .0 .0) (p .is-open) (p .number) (tells f) (c .if1 .left))
     ∙ answered-value (questionRefusal (s .args .n) (s .args .tree .now) (s .args .position)) (getD (previousTable (s .args .n) (s .args .tree .now)) (s .args .position) 0) (p .asked .none)
 
 pub previous-of-spec : {M : Type 1} → statement M

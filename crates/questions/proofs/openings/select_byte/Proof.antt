@@ -1,10 +1,10 @@
 -- `questions::openings::select_byte` meets its contract.
 use mathlib.Core.Path.{_≡_}
-use Prim.Native.Nat.{_-_}
+use Prim.Native.Nat.{_+_, _-_, _*_}
 use native.Mathlib.Omega.{arith}
 use lib.ListN.{length}
-use Rattle.search.proofs.Searching.{opened-byte}
-use Rattle.questions.proofs.Counting.{Passing, passed-bytes}
+use Rattle.refusal.specs.Conditions.{openings}
+use Rattle.questions.proofs.Counting.{Passing, passed-bytes, counted-byte}
 use Rattle.questions.proofs.openings.select_byte.Statement.{statement}
 use Rattle.questions.proofs.openings.select_byte.Tie as tie
 
@@ -26,10 +26,20 @@ shared-slice-read-openings-in c = omega arith
 openings-in-requires : tie.Need-openings-in-requires Inv-loop μ-loop
 openings-in-requires c κs = tt
 
+-- the openings of the byte that was read
+in-byte : (o : tie.After-openings-in Inv-loop μ-loop) → let l = o .before .before .before in let t = l .before .before .before .args .tree .now in
+    openings t (8 * l .loop .byte) + o .openings-in .result ≡ openings t (8 * l .loop .byte + 8)
+in-byte o =
+    let a = o .before in
+    let l = a .before .before in
+    let t = l .before .before .before .args .tree .now in
+    rw (o .openings-in .ensures) (counted-byte t (l .loop .byte) (omega (arith, a .shared-slice-known2 .given (l .loop .byte))))
+
 returns : tie.Need-returns Inv-loop μ-loop
 returns c =
     let i = c .before .before .before in
-    (i .loop-test .taken, i .before .loop .inv .count)
+    let v = i .before .loop .inv in
+    (i .loop-test .taken, v .count, omega (arith, in-byte (c .before), v .count))
 
 add-byte : tie.Need-add-byte Inv-loop μ-loop
 add-byte c = omega arith
@@ -41,9 +51,7 @@ loop-again : tie.Need-loop-again Inv-loop μ-loop
 loop-again c =
     let o = c .before in
     let i = o .before .before in
-    let l = i .before in
-    let t = l .before .before .before .args .tree .now in
-    passed-bytes 1 (l .loop .inv) (omega (arith, i .loop-test .taken)) (omega (arith, o .openings-in .ensures, opened-byte t (l .loop .byte) 8 (omega arith))) (c .if1 .left)
+    passed-bytes 1 (i .before .loop .inv) (omega (arith, i .loop-test .taken)) (omega (arith, in-byte o)) (c .if1 .left)
 
 returns-2 : tie.Need-returns-2 Inv-loop μ-loop
 returns-2 c =
