@@ -5,9 +5,7 @@ use mathlib.Core.List.{List}
 use Prim.Native.Nat.{ℕ}
 use lib.Dec.{eqb}
 use lib.ListN.{length}
-use Rattle.refusal.specs.Numbers.{verdictNumber}
 use Rattle.refusal.specs.Conditions.{readRefusal}
-use Rattle.refusal.specs.declared.Verdict.{Verdict}
 use Rattle.shape.specs.Shape.{previousTable, nextTable}
 
 -- the two tables that are lent to a reader
@@ -22,7 +20,7 @@ refusalOf n t lent = readRefusal n t (length (lent .previous)) (length (lent .ne
 unfoldable pub lentAtExit : ℕ → List ℕ → Lent → Lent
 lentAtExit n t lent = elim (eqb (refusalOf n t lent) 0) [ true ↦ record { previous = previousTable n t; next = nextTable n t } | false ↦ lent ]
 
--- reading, for all inputs
-pub record ReadBack (n : ℕ) (t : List ℕ) (before after : Lent) (verdict : Verdict) : Type 0 where
-  pub answers : verdictNumber verdict ≡ refusalOf n t before
+-- reading that answers with this number, 0 for none, for all inputs
+pub record ReadBack (n : ℕ) (t : List ℕ) (before after : Lent) (number : ℕ) : Type 0 where
+  pub answers : number ≡ refusalOf n t before
   pub leaves : after ≡ lentAtExit n t before

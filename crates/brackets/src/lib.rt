@@ -114,7 +114,7 @@ pub fn read(n: usize, tree: &[u8], previous: &mut [u32], next: &mut [u32]) -> Ve
     ensures { λ r.
         ⌜ ReadBack n (now (tree .entry)) (record { previous = now (previous .entry); next = now (next .entry) })
         (record { previous = now (previous .exit); next = now (next .exit) })
-        r ⌝ }
+        (verdictNumber r) ⌝ }
 {
     if n > 1000000 {
         return Verdict::Refused(Refusal::TooLong);

@@ -18,10 +18,9 @@ use Rattle.reuse.specs.Claims.{Exact}
 use Rattle.reuse.proofs.Exact.{exact}
 use Rattle.build.specs.declared.State.{State}
 use Rattle.build.specs.declared.Report.{Report}
-use Rattle.build.specs.declared.Built.{Built}
 use Rattle.build.specs.declared.Built.the-variants.{Finished, Halted, Refused}
 use Rattle.build.specs.States.{buildState}
-use Rattle.build.specs.Built.{Lent, lentAfter, figuresOf, refusalOf, answer, lentAtExit, BuiltExactly}
+use Rattle.build.specs.Built.{Lent, lentAfter, Figures, figuresOf, refusalOf, answer, lentAtExit, BuiltExactly}
 
 -- what is lent and asked for n letters, where it is not refused
 pub record Accepted (n R : ℕ) (before : Lent) : Type 0 where
@@ -44,21 +43,14 @@ module _ (y : List ℕ) (R : ℕ) (before : Lent) where
   abbrev n : ℕ
   n = length y
 
-  pub refused : (k : Refusal) → numberOf k ≡ refusalOf y R before → BuiltExactly y R before before (Refused k)
+  pub refused : (k : Refusal) → numberOf k ≡ refusalOf y R before → BuiltExactly y R before before (figuresOf (Refused k))
   unfolding answer lentAtExit
   refused k e =
       let ne = ne-eqb (refusalOf y R before) 0 (omega (arith, positive k)) in
       record {
         answers = rw (ne, answer) (ap Rattle.build.specs.Built.refused e);
         leaves = rw (ne, lentAtExit) refl;
-        bounded =
-            record {
-              within = λ z. absurd (omega (arith, positive k));
-              equal = λ z. absurd (omega (arith, positive k));
-              unequal = λ z. absurd (omega (arith, positive k));
-              bound = λ z. absurd (omega (arith, positive k));
-              whole = λ z. absurd (omega (arith, positive k));
-            };
+        bounded = λ z. absurd (omega (arith, positive k));
       }
 
   -- a report tells the rows that are asked, and the counts and the reach of the state
@@ -90,19 +82,19 @@ module _ (y : List ℕ) (R : ℕ) (before : Lent) where
       reached : report .reach ≡ reach y R
       reached = told .reach ∙ ap (λ (b : BuildState). b .progress .reach) i ∙ E .reached
 
-      exactly : (r : Built) → figuresOf r ≡ answer y R before → BuiltExactly y R before after r
+      exactly : (figures : Figures) → figures ≡ answer y R before → BuiltExactly y R before after figures
       unfolding lentAtExit lentAfter
-      exactly r a =
+      exactly figures a =
           record {
             answers = a;
             leaves = rw (eq-eqb (refusalOf y R before) 0 taken, lentAtExit, ← q, ← tables);
-            bounded = record { within = λ z. E .within; equal = λ z. E .equal; unequal = λ z. E .unequal; bound = λ z. E .bound; whole = λ z w h. E .whole h w };
+            bounded = λ z. E .bounded;
           }
 
-      pub finished : R ≡ n → BuiltExactly y R before after (Finished report)
+      pub finished : R ≡ n → BuiltExactly y R before after (figuresOf (Finished report))
       unfolding answer
-      finished h = exactly (Finished report) (rw (eq-eqb (refusalOf y R before) 0 taken, eq-eqb R n h, answer, told .rows, equals, unequals, reached))
+      finished h = exactly (figuresOf (Finished report)) (rw (eq-eqb (refusalOf y R before) 0 taken, eq-eqb R n h, answer, told .rows, equals, unequals, reached))
 
-      pub halted : R ≢ n → BuiltExactly y R before after (Halted report)
+      pub halted : R ≢ n → BuiltExactly y R before after (figuresOf (Halted report))
       unfolding answer
-      halted h = exactly (Halted report) (rw (eq-eqb (refusalOf y R before) 0 taken, ne-eqb R n h, answer, told .rows, equals, unequals, reached))
+      halted h = exactly (figuresOf (Halted report)) (rw (eq-eqb (refusalOf y R before) 0 taken, ne-eqb R n h, answer, told .rows, equals, unequals, reached))

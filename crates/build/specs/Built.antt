@@ -2,7 +2,7 @@
 use mathlib.Core.Path.{_≡_}
 use mathlib.Core.Bool.{true, false}
 use mathlib.Core.List.{List}
-use Prim.Native.Nat.{ℕ, _+_, _-_, _*_, _≤_, _<_}
+use Prim.Native.Nat.{ℕ}
 use lib.Dec.{eqb}
 use lib.ListN.{length}
 use Rattle.suffix.specs.Rows.{Tables, tablesAfter, reach}
@@ -10,7 +10,8 @@ use Rattle.suffix.specs.Tree.{treeBytes}
 use Rattle.refusal.specs.declared.Verdict.{Verdict}
 use Rattle.refusal.specs.Numbers.{numberOf, verdictNumber, unlessRefused}
 use Rattle.refusal.specs.Conditions.{buildRefusal, tablesRefusal}
-use Rattle.reuse.specs.Steps.{equalComparisons, unequalComparisons, comparisons}
+use Rattle.reuse.specs.Steps.{equalComparisons, unequalComparisons}
+use Rattle.reuse.specs.Claims.{Bounded}
 use Rattle.build.specs.declared.Built.{Built}
 use Rattle.build.specs.declared.Built.the-variants.{Finished, Halted, Refused}
 
@@ -63,23 +64,11 @@ answer y R lent =
 unfoldable pub lentAtExit : List ℕ → ℕ → Lent → Lent
 lentAtExit y R lent = elim (eqb (refusalOf y R lent) 0) [ true ↦ lentAfter y R | false ↦ lent ]
 
--- the cost and the reach of a build that is not refused
-pub record Bounded (y : List ℕ) (R : ℕ) (before : Lent) : Type 0 where
-  -- "Reach never passes n"
-  pub within : refusalOf y R before ≡ 0 → reach y R ≤ length y
-  -- T-02: "with R ≥ 1 rows done, equal ones are at most reach less one, unequal ones at most twice (R less one)."
-  pub equal : refusalOf y R before ≡ 0 → 0 < R → equalComparisons y R ≤ reach y R - 1
-  pub unequal : refusalOf y R before ≡ 0 → 0 < R → unequalComparisons y R ≤ 2 * (R - 1)
-  -- "these comparisons are at most 2 (R - 1) + (reach - 1)"
-  pub bound : refusalOf y R before ≡ 0 → 0 < R → comparisons y R ≤ 2 * (R - 1) + (reach y R - 1)
-  -- "so a whole build takes at most 3 (n - 1)"
-  pub whole : refusalOf y R before ≡ 0 → R ≡ length y → 0 < R → comparisons y R ≤ 3 * (length y - 1)
-
--- demand 3, and demand 1 for the build: of one and the same build, whatever the string, R and the lent memory
-pub record BuiltExactly (y : List ℕ) (R : ℕ) (before after : Lent) (built : Built) : Type 0 where
-  pub answers : figuresOf built ≡ answer y R before
+-- demand 3, and demand 1 for the build: of one and the same build with these figures, whatever the string, R and the lent memory
+pub record BuiltExactly (y : List ℕ) (R : ℕ) (before after : Lent) (figures : Figures) : Type 0 where
+  pub answers : figures ≡ answer y R before
   pub leaves : after ≡ lentAtExit y R before
-  pub bounded : Bounded y R before
+  pub bounded : refusalOf y R before ≡ 0 → Bounded y R
 
 -- ---- the four tables alone, of all letters: what T-03 and T-06 of document 02 work with
 

@@ -8,7 +8,7 @@ ghost use Rattle.suffix.specs.Ranks.{ranks, oriented};
 ghost use Rattle.suffix.specs.Tree.{treeLength, treeBytes};
 ghost use Rattle.reuse.specs.Steps.{scan as stepScan, scanned, afterRows};
 ghost use Rattle.build.specs.States.{stringOf, progressOf, reportOf, pairOf, clearedTables, buildState, Safe, settledFrom};
-ghost use Rattle.build.specs.Built.{tablesOf, lent, BuiltExactly, TablesBuilt};
+ghost use Rattle.build.specs.Built.{tablesOf, lent, figuresOf, BuiltExactly, TablesBuilt};
 use entries::clear_from;
 use refusal::Refusal;
 use refusal::Verdict;
@@ -364,7 +364,7 @@ pub fn build(
         ⌜ BuiltExactly (ranks (now (letters .entry))) rows
         (lent (now (previous .entry)) (now (next .entry)) (now («previous_match» .entry)) (now («next_match» .entry)) (now (tree .entry)))
         (lent (now (previous .exit)) (now (next .exit)) (now («previous_match» .exit)) (now («next_match» .exit)) (now (tree .exit)))
-        r ⌝ }
+        (figuresOf r) ⌝ }
 {
     let n = letters.len();
     let verdict = refusal::build_verdict(

@@ -4,8 +4,7 @@ use mathlib.Core.List.{List, []}
 use Prim.Native.Nat.{ℕ, _+_}
 use lib.ListN.{length}
 use denote.Ref.{RefT}
-use Rattle.refusal.specs.Numbers.{unlessRefused, verdictNumber}
-use Rattle.refusal.specs.declared.Verdict.{Verdict}
+use Rattle.refusal.specs.Numbers.{unlessRefused}
 use Rattle.cabinet.specs.File.{cabinet, markOf, placeOf, lettersOf, bodyOf}
 use Rattle.cabinet.specs.Refusals.{readRefusal, writeRefusal}
 
@@ -14,8 +13,8 @@ use Rattle.cabinet.specs.Refusals.{readRefusal, writeRefusal}
 abbrev pub writtenFile : List ℕ → List ℕ → List ℕ → List ℕ
 writtenFile counts trees buffer = unlessRefused (writeRefusal counts trees (length buffer)) (cabinet counts trees) buffer
 
-pub record Written (counts trees before after : List ℕ) (verdict : Verdict) : Type 0 where
-  pub answers : verdictNumber verdict ≡ writeRefusal counts trees (length before)
+pub record Written (counts trees before after : List ℕ) (number : ℕ) : Type 0 where
+  pub answers : number ≡ writeRefusal counts trees (length before)
   pub leaves : after ≡ writtenFile counts trees before
 
 -- ---- the reader "returns one body as a part of it, and its letter count"; "A refused reading returns the empty part at the file's start"

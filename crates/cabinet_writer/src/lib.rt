@@ -3,6 +3,7 @@ ghost use mathlib.Core.Path.{_≡_};
 ghost use mathlib.Core.List.{_++_};
 ghost use Prim.Native.Nat.{_+_, _≤_, _<_};
 ghost use lib.ListN.{length};
+ghost use Rattle.refusal.specs.Numbers.{verdictNumber};
 ghost use Rattle.writing.specs.Writing.{Wrote};
 ghost use Rattle.cabinet.specs.LittleEndian.{fourBytes};
 ghost use Rattle.cabinet.specs.File.{contentsEnd, contents, cabinet};
@@ -59,7 +60,7 @@ fn fill(counts: &[u32], trees: &[u8], file: &mut [u8])
 
 // Writes the trees of these letter counts, end to end, to a buffer of the file's size. Refused, the buffer is as it was.
 pub fn write(counts: &[u32], trees: &[u8], file: &mut [u8]) -> Verdict
-    ensures { λ r. ⌜ Written (now (counts .entry)) (now (trees .entry)) (now (file .entry)) (now (file .exit)) r ⌝ }
+    ensures { λ r. ⌜ Written (now (counts .entry)) (now (trees .entry)) (now (file .entry)) (now (file .exit)) (verdictNumber r) ⌝ }
 {
     let verdict = cabinet_bodies::verdict_on(counts, trees, file.len());
     match verdict {

@@ -192,11 +192,14 @@ no-rows y =
           (λ i h. getD-replicate n i n 0 h ∙ sym (nextAfter-out y 0 i (omega arith))) (λ i h. getD-replicate n i 0 0 h ∙ sym (previousMatchAfter-out y 0 i (omega arith)))
           (λ i h. getD-replicate n i 0 0 h ∙ sym (nextMatchAfter-out y 0 i (omega arith)));
       reached = refl;
-      within = omega arith;
-      equal = λ h. absurd (omega arith);
-      unequal = λ h. absurd (omega arith);
-      bound = λ h. absurd (omega arith);
-      whole = λ h. absurd (omega arith);
+      bounded =
+          record {
+            within = omega arith;
+            equal = λ h. absurd (omega arith);
+            unequal = λ h. absurd (omega arith);
+            bound = λ h. absurd (omega arith);
+            whole = λ h. absurd (omega arith);
+          };
       at-zero = λ h. (refl, refl, refl);
     }
   where
@@ -214,10 +217,6 @@ exact y (suc r) g =
     record {
       tables = tables-are y (suc r) (afterRows y (suc r) .tables) (D .sizes) (D .previous) (D .next) (D .previousMatch) (D .nextMatch);
       reached = c;
-      within = fits;
-      equal = λ _. omega arith;
-      unequal = λ _. omega arith;
-      bound = λ _. omega arith;
-      whole = λ _ e. omega arith;
+      bounded = record { within = fits; equal = λ _. omega arith; unequal = λ _. omega arith; bound = λ _. omega arith; whole = λ _ e. omega arith };
       at-zero = λ e. absurd (omega arith);
     }

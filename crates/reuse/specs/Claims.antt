@@ -7,11 +7,8 @@ use lib.ListN.{length, getD}
 use Rattle.suffix.specs.Rows.{Tables, tablesAfter, reach}
 use Rattle.reuse.specs.Steps.{Progress, asked, ended, advances, rowStart, row, afterRows, equalComparisons, unequalComparisons, comparisons}
 
--- What the steps leave after R rows: the tables and the reach of the definitions; and what that may cost. The steps do not speak of
--- the tree, nor does this.
-pub record Exact (y : List ℕ) (R : ℕ) : Type 0 where
-  pub tables : afterRows y R .tables ≡ tablesAfter y R
-  pub reached : afterRows y R .progress .reach ≡ reach y R
+-- what R rows may cost
+pub record Bounded (y : List ℕ) (R : ℕ) : Type 0 where
   -- demand 3: "Reach never passes n"
   pub within : reach y R ≤ length y
   -- T-02: "with R ≥ 1 rows done, equal ones are at most reach less one, unequal ones at most twice (R less one)."
@@ -20,6 +17,13 @@ pub record Exact (y : List ℕ) (R : ℕ) : Type 0 where
   -- demand 3: "these comparisons are at most 2 (R - 1) + (reach - 1)", "so a whole build takes at most 3 (n - 1)."
   pub bound : 0 < R → comparisons y R ≤ 2 * (R - 1) + (reach y R - 1)
   pub whole : 0 < R → R ≡ length y → comparisons y R ≤ 3 * (length y - 1)
+
+-- What the steps leave after R rows: the tables and the reach of the definitions; and what that may cost. The steps do not speak of
+-- the tree, nor does this.
+pub record Exact (y : List ℕ) (R : ℕ) : Type 0 where
+  pub tables : afterRows y R .tables ≡ tablesAfter y R
+  pub reached : afterRows y R .progress .reach ≡ reach y R
+  pub bounded : Bounded y R
   -- document 01: "For R = 0 comparisons and reach are 0."
   pub at-zero : R ≡ 0 → (equalComparisons y R ≡ 0) × (unequalComparisons y R ≡ 0) × (reach y R ≡ 0)
 

@@ -110,7 +110,7 @@ module _ (y : List ℕ) (work : List (List ℕ)) (lent : Lists) where
   abbrev differ-in-length : Bool
   differ-in-length = listLengthsDiffer size (length (lent .ends)) (length (lent .periods))
 
-  pub refused-by-lengths : (k : Refusal) → numberOf k ≡ of-lengths → Reported y work lent work lent (NoValue k)
+  pub refused-by-lengths : (k : Refusal) → numberOf k ≡ of-lengths → Reported y work lent work lent (figuresOf (NoValue k))
   unfolding lengthsRefusal runsRefusal answer
   refused-by-lengths k e =
       let L = lengths-first (tooLong (length y)) (workLengthOff (length y) (map length work)) differ-in-length (tooManyRuns y size) (λ z. omega (arith, positive k, e, z)) in
@@ -133,7 +133,7 @@ module _ (y : List ℕ) (work : List (List ℕ)) (lent : Lists) where
         go false e = inl e
 
     written-all : {after : Lists} {r : Answer} → Written (length (runs y)) (listsOf (runs y) (length y)) lent after r → {cleared : List (List ℕ)} → cleared ≡ map zeros work
-        → Reported y work lent cleared after r
+        → Reported y work lent cleared after (figuresOf r)
     unfolding answer listsAfter
     written-all W w =
         let l = runs y in
@@ -176,7 +176,7 @@ module _ (y : List ℕ) (lent : Lists) {g h i j k l a b c d e f : List ℕ}
   tables-end = let t = in-tables in rw (t .0, t .1, t .2, all-counted) (lists-end (runs y) n (omega (arith, runs-most y)))
 
   pub reported : {after : Lists} {x : Answer} → Written count (lists a c b) lent after x → {a′ b′ c′ : List ℕ} → a′ ≡ zeros a → b′ ≡ zeros b → c′ ≡ zeros c
-      → Reported y (workOf g h i j k l) lent (workOf a′ b′ c′ d e f) after x
+      → Reported y (workOf g h i j k l) lent (workOf a′ b′ c′ d e f) after (figuresOf x)
   reported W {a′} {b′} {c′} p q o =
       let t = in-tables in
       let u = empty in

@@ -2,8 +2,7 @@
 use mathlib.Core.Path.{_≡_}
 use mathlib.Core.List.{List, [], _∷_}
 use Prim.Native.Nat.{ℕ}
-use Rattle.refusal.specs.declared.Answer.{Answer}
-use Rattle.refusal.specs.Answers.{figuresOf}
+use Rattle.refusal.specs.Answers.{Figures}
 use Rattle.repeats.specs.Refusals.{Lists}
 use Rattle.repeats.specs.Answers.{answer, listsAfter, workAfter}
 
@@ -12,7 +11,7 @@ abbrev pub workOf : (previous next previousMatch nextMatch reverseNext reverseMa
 workOf previous next previousMatch nextMatch reverseNext reverseMatch = previous ∷ next ∷ previousMatch ∷ nextMatch ∷ reverseNext ∷ reverseMatch ∷ []
 
 -- of one and the same call, whatever the string and the lent memory
-pub record Reported (y : List ℕ) (work : List (List ℕ)) (lists : Lists) (workExit : List (List ℕ)) (listsExit : Lists) (r : Answer) : Type 0 where
-  pub answers : figuresOf r ≡ answer y work lists
+pub record Reported (y : List ℕ) (work : List (List ℕ)) (lists : Lists) (workExit : List (List ℕ)) (listsExit : Lists) (figures : Figures) : Type 0 where
+  pub answers : figures ≡ answer y work lists
   pub leaves-lists : listsExit ≡ listsAfter y work lists
   pub leaves-work : workExit ≡ workAfter y work lists

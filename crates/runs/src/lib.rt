@@ -91,7 +91,7 @@ pub fn report(
         (lists (now (starts .entry)) (now (ends .entry)) (now (periods .entry)))
         (workOf (now (previous .exit)) (now (next .exit)) (now («previous_match» .exit)) (now («next_match» .exit)) (now («reverse_next» .exit)) (now («reverse_match» .exit)))
         (lists (now (starts .exit)) (now (ends .exit)) (now (periods .exit)))
-        r ⌝ }
+        (figuresOf r) ⌝ }
 {
     if letters.len() > 1000000 {
         return Answer::NoValue(Refusal::TooLong);

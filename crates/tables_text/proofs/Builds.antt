@@ -39,7 +39,7 @@ taken {n} {p} {q} {pm} {qm} {t} r =
       le-ltb n n (omega arith),
     )
 
-module _ (y : List ℕ) (before after : Lent) (b : Built) (accepted : refusalOf y (length y) before ≡ 0) (e : BuiltExactly y (length y) before after b) where
+module _ (y : List ℕ) (before after : Lent) (b : Built) (accepted : refusalOf y (length y) before ≡ 0) (e : BuiltExactly y (length y) before after (figuresOf b)) where
   counted : countOf (figuresOf b) ≡ comparisons y (length y)
   unfolding answer
   counted =
@@ -52,7 +52,7 @@ module _ (y : List ℕ) (before after : Lent) (b : Built) (accepted : refusalOf 
     where
       go : Same (length y) 0 → countOf (figuresOf b) ≤ mostCompared
       go (same z) = let o = stepsAreExact y (length y) (omega arith) .at-zero z in omega (arith, counted, o .0, o .1)
-      go (other z) = omega (arith, counted, e .bounded .whole accepted refl (omega arith))
+      go (other z) = omega (arith, counted, e .bounded accepted .whole (omega arith) refl)
 
   left : after ≡ lentAfter y (length y)
   unfolding lentAtExit
@@ -84,7 +84,7 @@ module _ (y : List ℕ) (before after : Lent) (b : Built) (accepted : refusalOf 
 -- where the memory has room
 module _ (letters : List ℕ) {before after : Lent} {b : Built}
     (r : Room (length letters) (length (before .tables .previous)) (length (before .tables .next)) (length (before .tables .previousMatch)) (length (before .tables .nextMatch)) (length (before .tree)))
-    (e : BuiltExactly (ranks letters) (length letters) before after b) where
+    (e : BuiltExactly (ranks letters) (length letters) before after (figuresOf b)) where
   abbrev y : List ℕ
   y = ranks letters
 
@@ -93,7 +93,7 @@ module _ (letters : List ℕ) {before after : Lent} {b : Built}
   not-refused = rw (ranks-length letters) (taken r)
 
   -- as many rows as ranks
-  all-rows : BuiltExactly y (length y) before after b
+  all-rows : BuiltExactly y (length y) before after (figuresOf b)
   all-rows = rw (ranks-length letters) e
 
   pub few-compared : countOf (figuresOf b) ≤ mostCompared

@@ -62,7 +62,7 @@ after t = let u = t .clear-tables .last .1 .1 in lent (u .0) (u .1 .0) (u .1 .1 
 returns : tie.Need-returns
 returns c =
     let s = c .before .before .before .before .before .before .before .before .before .before in
-    answers.refused (y s) (s .args .rows) (before s) _
+    answers.refused (y s) (s .args .rows) (before s) (c .before .verdict .given .0 .0)
     (sym (ap verdictNumber (c .before .verdict .given .1)) ∙ c .before .before .before .build-verdict .ensures ∙ refusal-is false (s .args .letters .now) (s .args .rows) (before s))
 
 -- the tree is cleared, and keeps its length
