@@ -43,6 +43,11 @@ module _ (y : List ℕ) (R : ℕ) (before : Lent) where
   abbrev n : ℕ
   n = length y
 
+  -- what a build that is not refused leaves
+  pub left-built : refusalOf y R before ≡ 0 → lentAtExit y R before ≡ lentAfter y R
+  unfolding lentAtExit
+  left-built e = rw (eq-eqb (refusalOf y R before) 0 e, lentAtExit)
+
   pub refused : (k : Refusal) → numberOf k ≡ refusalOf y R before → BuiltExactly y R before before (figuresOf (Refused k))
   unfolding answer lentAtExit
   refused k e =

@@ -13,7 +13,8 @@ use Rattle.suffix.proofs.Laws.{allRowsGiveAllEntries, sameLettersSameRanks}
 use Rattle.refusal.specs.Numbers.{lowest, lowestFrom}
 use Rattle.refusal.specs.Conditions.{readRefusal, treeRefusal}
 use Rattle.build.specs.Built.{Lent, lentAfter, refusalOf, answer, lentAtExit}
-use Rattle.build.proofs.Answers.{Accepted, accepted}
+use Rattle.build.proofs.Answers.{Accepted, accepted, left-built}
+use Rattle.checker.specs.Checked as checker
 use Rattle.shape.specs.Claims.{ReadsAs, forNone}
 use Rattle.brackets.specs.Answers as brackets
 use Rattle.shape.proofs.Laws.{finishedTree, haltedTree, haltedTreeIsRefused}
@@ -21,14 +22,10 @@ use Rattle.word.proofs.Laws.{same-words}
 use Rattle.repeats.specs.Answers as repeats
 use Rattle.lyndon.specs.Claims.{Fits, Reads, BuiltThenRead, HaltedThenRefused, HaltedThenRead, MaskingChangesNoAnswer}
 
--- what a build that is not refused was lent, and leaves
+-- what a build that is not refused was lent
 was-lent : (y : List ℕ) (R : ℕ) (before : Lent) → refusalOf y R before ≡ 0 → Accepted (length y) R before
 unfolding refusalOf
 was-lent y R before e = accepted (length y) R before e
-
-left : (y : List ℕ) (R : ℕ) (before : Lent) → refusalOf y R before ≡ 0 → lentAtExit y R before ≡ lentAfter y R
-unfolding lentAtExit
-left y R before e = rw (eq-eqb (refusalOf y R before) 0 e, lentAtExit)
 
 -- over tables that fit, reading refuses what is no tree, and nothing else
 as-tree : (n : ℕ) (t : List ℕ) (tables : brackets.Lent) → Fits n tables → brackets.refusalOf n t tables ≡ treeRefusal n t
@@ -46,19 +43,19 @@ unfolding lentAfter
 builtThenRead y before after tables e z F =
     let n = length y in
     let a = was-lent y n before e in
-    reads n (after .tree) (after .tables .previous) (after .tables .next) tables F (rw (z, left y n before e, allRowsGiveAllEntries y) (finishedTree y (a .few)))
+    reads n (after .tree) (after .tables .previous) (after .tables .next) tables F (rw (z, left-built y n before e, allRowsGiveAllEntries y) (finishedTree y (a .few)))
 
 pub haltedThenRefused : HaltedThenRefused
 unfolding lentAfter
 haltedThenRefused y R before after tables h e z F =
     let a = was-lent y R before e in
-    as-tree (length y) (after .tree) tables F ∙ rw (z, left y R before e) (haltedTreeIsRefused y R h (a .few))
+    as-tree (length y) (after .tree) tables F ∙ rw (z, left-built y R before e) (haltedTreeIsRefused y R h (a .few))
 
 pub haltedThenRead : HaltedThenRead
 unfolding lentAfter tablesAfter
 haltedThenRead y R before after tables e z F =
     let a = was-lent y R before e in
-    reads R _ _ _ tables F (rw (z, left y R before e, seen (previousAfter y R) (a .rows), seen (nextAfter y R) (a .rows)) (haltedTree y R (a .rows) (le-trans (a .rows) (a .few))))
+    reads R _ _ _ tables F (rw (z, left-built y R before e, seen (previousAfter y R) (a .rows), seen (nextAfter y R) (a .rows)) (haltedTree y R (a .rows) (le-trans (a .rows) (a .few))))
   where
     n : ℕ
     n = length y
@@ -76,4 +73,6 @@ maskingChangesNoAnswer letters others S =
       runs = λ work lists. ap (λ y. repeats.answer y work lists) e;
       runs-lists = λ work lists. ap (λ y. repeats.listsAfter y work lists) e;
       runs-work = λ work lists. ap (λ y. repeats.workAfter y work lists) e;
+      check = λ claimed work. ap (λ y. checker.finding y claimed work) e;
+      check-leaves = λ claimed work. ap (λ y. checker.workAtExit y claimed work) e;
     }

@@ -6,8 +6,10 @@ use Prim.Native.Nat.{ℕ, _<_}
 use lib.ListN.{length, getD}
 use Rattle.suffix.specs.Ranks.{ranks}
 use Rattle.suffix.specs.Search.{tabulate}
+use Rattle.suffix.specs.Rows.{Tables}
 use Rattle.suffix.specs.Claims.{SameLetters}
 use Rattle.build.specs.Built.{Lent, refusalOf, answer, lentAtExit}
+use Rattle.checker.specs.Checked as checker
 use Rattle.shape.specs.Claims.{firstBytes, forNone}
 use Rattle.brackets.specs.Answers as brackets
 use Rattle.repeats.specs.Refusals.{Lists}
@@ -46,7 +48,7 @@ HaltedThenRead =
 
 -- ---- T-04: "the trade counts a masked base as the same base"
 
--- a build, the longest-word question and the report of all runs answer the same of both, and leave the same in the same memory
+-- a build, the longest-word question, the report of all runs and a check answer the same of both, and leave the same in the same memory
 pub record AnsweredAlike (letters others : List ℕ) : Type 0 where
   pub build : (R : ℕ) (before : Lent) → answer (ranks letters) R before ≡ answer (ranks others) R before
   pub build-leaves : (R : ℕ) (before : Lent) → lentAtExit (ranks letters) R before ≡ lentAtExit (ranks others) R before
@@ -54,6 +56,8 @@ pub record AnsweredAlike (letters others : List ℕ) : Type 0 where
   pub runs : (work : List (List ℕ)) (lists : Lists) → repeats.answer (ranks letters) work lists ≡ repeats.answer (ranks others) work lists
   pub runs-lists : (work : List (List ℕ)) (lists : Lists) → repeats.listsAfter (ranks letters) work lists ≡ repeats.listsAfter (ranks others) work lists
   pub runs-work : (work : List (List ℕ)) (lists : Lists) → repeats.workAfter (ranks letters) work lists ≡ repeats.workAfter (ranks others) work lists
+  pub check : (claimed : List ℕ) (work : Tables) → checker.finding (ranks letters) claimed work ≡ checker.finding (ranks others) claimed work
+  pub check-leaves : (claimed : List ℕ) (work : Tables) → checker.workAtExit (ranks letters) claimed work ≡ checker.workAtExit (ranks others) claimed work
 
 -- so it is of letters that differ in masking alone, as a string and the same in capitals
 abbrev pub MaskingChangesNoAnswer : Type 0

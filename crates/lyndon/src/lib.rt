@@ -1,15 +1,21 @@
 // The exported functions: each passes its arguments on to the crate that does the work.
 ghost use mathlib.Core.Path.{_≡_};
 ghost use Rattle.suffix.specs.Ranks.{ranks};
-ghost use Rattle.build.specs.Built.{lent, figuresOf as builtFigures};
+ghost use Rattle.build.specs.Built.{tablesOf, lent, figuresOf as builtFigures, BuiltExactly};
+ghost use Rattle.checker.specs.Checked.{findingOf, CheckedExactly};
 ghost use Rattle.refusal.specs.Answers.{figuresOf};
+ghost use Rattle.brackets.specs.Answers.{ReadBack};
 ghost use Rattle.questions.specs.Answers.{previousAnswer, nextAnswer, placeAnswer};
-ghost use Rattle.lyndon.specs.Replies.{interfaceVersion, BuildReplied, ReadReplied, RunsReplied, WriteReplied, buildReply, reply, wordReply, cabinetReply};
+ghost use Rattle.repeats.specs.Refusals.{lists};
+ghost use Rattle.runs.specs.Reported.{workOf, Reported};
+ghost use Rattle.cabinet.specs.Answers.{Written};
+ghost use Rattle.lyndon.specs.Replies.{interfaceVersion, Replied, buildReply, reply, checkReply, wordReply, cabinetReply};
 use build::Built;
+use checker::Checked;
 use refusal::Answer;
 
 // LYNDON_VERSION of the header.
-const VERSION: u32 = 3;
+const VERSION: u32 = 4;
 
 #[repr(C)]
 pub struct BuildReply {
@@ -25,6 +31,13 @@ pub struct BuildReply {
 pub struct Reply {
     pub refusal: u32,
     pub value: usize,
+}
+
+#[repr(C)]
+pub struct CheckReply {
+    pub refusal: u32,
+    pub right: u32,
+    pub position: usize,
 }
 
 #[repr(C)]
@@ -92,9 +105,10 @@ pub extern "C" fn lyndon_build(
     tree: &mut [u8],
 ) -> BuildReply
     ensures { λ r.
-        ⌜ BuildReplied (ranks (now (letters .entry))) rows
+        ⌜ Replied buildReply
+        (BuiltExactly (ranks (now (letters .entry))) rows
         (lent (now (previous .entry)) (now (next .entry)) (now («previous_match» .entry)) (now («next_match» .entry)) (now (tree .entry)))
-        (lent (now (previous .exit)) (now (next .exit)) (now («previous_match» .exit)) (now («next_match» .exit)) (now (tree .exit)))
+        (lent (now (previous .exit)) (now (next .exit)) (now («previous_match» .exit)) (now («next_match» .exit)) (now (tree .exit))))
         r ⌝ }
 {
     build_reply(build::build(
@@ -111,7 +125,7 @@ pub extern "C" fn lyndon_build(
 #[no_mangle]
 pub extern "C" fn lyndon_read(n: usize, tree: &[u8], previous: &mut [u32], next: &mut [u32]) -> u32
     ensures { λ r.
-        ⌜ ReadReplied n (now (tree .entry)) (record { previous = now (previous .entry); next = now (next .entry) })
+        ⌜ ReadBack n (now (tree .entry)) (record { previous = now (previous .entry); next = now (next .entry) })
         (record { previous = now (previous .exit); next = now (next .exit) })
         r ⌝ }
 {
@@ -189,11 +203,12 @@ pub extern "C" fn lyndon_runs(
     work_6: &mut [u32],
 ) -> Reply
     ensures { λ r.
-        ⌜ RunsReplied (ranks (now (letters .entry)))
-        (now («work_1» .entry)) (now («work_2» .entry)) (now («work_3» .entry)) (now («work_4» .entry)) (now («work_5» .entry)) (now («work_6» .entry))
-        (now (starts .entry)) (now (ends .entry)) (now (periods .entry))
-        (now («work_1» .exit)) (now («work_2» .exit)) (now («work_3» .exit)) (now («work_4» .exit)) (now («work_5» .exit)) (now («work_6» .exit))
-        (now (starts .exit)) (now (ends .exit)) (now (periods .exit))
+        ⌜ Replied reply
+        (Reported (ranks (now (letters .entry)))
+        (workOf (now («work_1» .entry)) (now («work_2» .entry)) (now («work_3» .entry)) (now («work_4» .entry)) (now («work_5» .entry)) (now («work_6» .entry)))
+        (lists (now (starts .entry)) (now (ends .entry)) (now (periods .entry)))
+        (workOf (now («work_1» .exit)) (now («work_2» .exit)) (now («work_3» .exit)) (now («work_4» .exit)) (now («work_5» .exit)) (now («work_6» .exit)))
+        (lists (now (starts .exit)) (now (ends .exit)) (now (periods .exit))))
         r ⌝ }
 {
     reply_of(runs::report(
@@ -210,9 +225,50 @@ pub extern "C" fn lyndon_runs(
     ))
 }
 
+fn check_reply(checked: Checked) -> CheckReply
+    ensures { λ r. ⌜ r ≡ checkReply (findingOf checked) ⌝ }
+{
+    match checked {
+        Checked::Right => CheckReply {
+            refusal: 0,
+            right: 1,
+            position: 0,
+        },
+        Checked::WrongAt(i) => CheckReply {
+            refusal: 0,
+            right: 0,
+            position: i,
+        },
+        Checked::Refused(k) => CheckReply {
+            refusal: refusal::number(k),
+            right: 0,
+            position: 0,
+        },
+    }
+}
+
+#[no_mangle]
+pub extern "C" fn lyndon_check(
+    letters: &[u8],
+    claimed: &[u32],
+    previous: &mut [u32],
+    next: &mut [u32],
+    previous_match: &mut [u32],
+    next_match: &mut [u32],
+) -> CheckReply
+    ensures { λ r.
+        ⌜ Replied checkReply
+        (CheckedExactly (ranks (now (letters .entry))) (now (claimed .entry))
+        (tablesOf (now (previous .entry)) (now (next .entry)) (now («previous_match» .entry)) (now («next_match» .entry)))
+        (tablesOf (now (previous .exit)) (now (next .exit)) (now («previous_match» .exit)) (now («next_match» .exit))))
+        r ⌝ }
+{
+    check_reply(checker::check(letters, claimed, previous, next, previous_match, next_match))
+}
+
 #[no_mangle]
 pub extern "C" fn lyndon_cabinet_write(counts: &[u32], trees: &[u8], file: &mut [u8]) -> u32
-    ensures { λ r. ⌜ WriteReplied (now (counts .entry)) (now (trees .entry)) (now (file .entry)) (now (file .exit)) r ⌝ }
+    ensures { λ r. ⌜ Written (now (counts .entry)) (now (trees .entry)) (now (file .entry)) (now (file .exit)) r ⌝ }
 {
     refusal::verdict_number(cabinet_writer::write(counts, trees, file))
 }

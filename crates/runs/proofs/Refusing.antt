@@ -3,19 +3,17 @@ use mathlib.Core.Path.{_≡_, refl, sym, ap, _∙_}
 use mathlib.Core.Logic.{_≢_, _⊎_, inl, inr}
 use mathlib.Core.Bool.{Bool, true, false}
 use mathlib.Core.List.{List, [], _∷_, _++_, map}
-use Prim.Native.Nat.{ℕ, _≤_}
+use Prim.Native.Nat.{ℕ, _≤_, _<_}
 use native.Mathlib.Omega.{arith}
 use lib.ListN.{length, getD, replicate}
 use borrow.Author.Tests.{eq-eqb, ne-eqb}
-use Rattle.refusal.specs.declared.Refusal.{Refusal}
 use Rattle.refusal.specs.declared.Refusal.the-variants.{TooLong, TableLength, ListLengths, TooManyRuns}
 use Rattle.refusal.specs.declared.Answer.{Answer}
-use Rattle.refusal.specs.declared.Answer.the-variants.{NoValue}
-use Rattle.refusal.specs.Answers.{figuresOf, answered}
-use Rattle.refusal.specs.Numbers.{numberOf, numberIf, firstOf, unlessRefused}
+use Rattle.refusal.specs.Answers.{value, refused, figuresOf, answered}
+use Rattle.refusal.specs.Numbers.{numberIf, firstOf, unlessRefused}
 use Rattle.refusal.specs.Conditions.{tooLong}
-use Rattle.refusal.proofs.Numbers.{positive, unless-taken}
-use Rattle.refusal.proofs.Answers.{answered-value, answered-refused}
+use Rattle.refusal.proofs.Numbers.{unless-taken, unless-refused}
+use Rattle.refusal.proofs.Answers.{answered-value}
 use Rattle.repeats.specs.Report.{runs}
 use Rattle.repeats.specs.Refusals.{Lists, lists, workLengthOff, listLengthsDiffer, tooManyRuns, lengthsRefusal, runsRefusal}
 use Rattle.repeats.specs.Answers.{answer, listsOf, listsAfter, zeros}
@@ -110,14 +108,14 @@ module _ (y : List ℕ) (work : List (List ℕ)) (lent : Lists) where
   abbrev differ-in-length : Bool
   differ-in-length = listLengthsDiffer size (length (lent .ends)) (length (lent .periods))
 
-  pub refused-by-lengths : (k : Refusal) → numberOf k ≡ of-lengths → Reported y work lent work lent (figuresOf (NoValue k))
+  pub refused-by-lengths : (k : ℕ) → 0 < k → k ≡ of-lengths → Reported y work lent work lent (refused k)
   unfolding lengthsRefusal runsRefusal answer
-  refused-by-lengths k e =
-      let L = lengths-first (tooLong (length y)) (workLengthOff (length y) (map length work)) differ-in-length (tooManyRuns y size) (λ z. omega (arith, positive k, e, z)) in
-      let q : numberOf k ≡ number = e ∙ sym (L .0) in
-      let ne : number ≢ 0 = (λ z. omega (arith, positive k, q, z)) in
+  refused-by-lengths k h e =
+      let L = lengths-first (tooLong (length y)) (workLengthOff (length y) (map length work)) differ-in-length (tooManyRuns y size) (λ z. omega (arith, h, e, z)) in
+      let q : k ≡ number = e ∙ sym (L .0) in
+      let ne : number ≢ 0 = (λ z. omega (arith, h, q, z)) in
       let R = refusalsLeave y work lent in
-      record { answers = answered-refused number (length (runs y)) k q; leaves-lists = sym (R .same-lists ne); leaves-work = sym (R .same-work ne (λ z. L .1 (sym e ∙ q ∙ z))) }
+      record { answers = ap refused q ∙ sym (unless-refused number (value (length (runs y))) (refused number) ne); leaves-lists = sym (R .same-lists ne); leaves-work = sym (R .same-work ne (λ z. L .1 (sym e ∙ q ∙ z))) }
 
   -- where lengths refuse nothing: the runs are written or are too many, and the work tables are cleared
   module _ (taken : of-lengths ≡ 0) where

@@ -19,7 +19,8 @@ use Rattle.refusal.specs.Conditions.{buildRefusal}
 use Rattle.build.specs.declared.Built.{Built}
 use Rattle.reuse.specs.Steps.{comparisons}
 use Rattle.reuse.proofs.Laws.{stepsAreExact}
-use Rattle.build.specs.Built.{Lent, lentAfter, figuresOf, refusalOf, answer, lentAtExit, BuiltExactly}
+use Rattle.build.specs.Built.{Lent, lentAfter, figuresOf, refusalOf, answer, BuiltExactly}
+use Rattle.build.proofs.Answers.{left-built}
 use Rattle.tables_text.specs.Text.{headText, lines, tablesText, tooLongText, programText, Rendered}
 use Rattle.writing.specs.Writing.{Wrote}
 use Rattle.tables_text.specs.Buffers.{Room, WholeBuild, countOf, mostCompared}
@@ -55,8 +56,7 @@ module _ (y : List ℕ) (before after : Lent) (b : Built) (accepted : refusalOf 
       go (other z) = omega (arith, counted, e .bounded accepted .whole (omega arith) refl)
 
   left : after ≡ lentAfter y (length y)
-  unfolding lentAtExit
-  left = e .leaves ∙ rw (eq-eqb (refusalOf y (length y) before) 0 accepted, lentAtExit)
+  left = e .leaves ∙ left-built y (length y) before accepted
 
   previous-is : after .tables .previous ≡ tabulate (length y) (previous y)
   unfolding lentAfter

@@ -1,10 +1,9 @@
 -- `lyndon::lyndon_build` meets its contract.
-use Rattle.lyndon.proofs.Replying.{built}
 use Rattle.lyndon.proofs.lyndon_build.Statement.{statement}
 use Rattle.lyndon.proofs.lyndon_build.Tie as tie
 
 returns : tie.Need-returns
-returns c = built (c .before .before .before .before .before .before .before .before .before .before .before .build .ensures) (c .build-reply .ensures)
+returns c = record { figures = _; exactly = c .before .before .before .before .before .before .before .before .before .before .before .build .ensures; replies = c .build-reply .ensures }
 
 pub lyndon-build-spec : {M : Type 1} → statement M
 lyndon-build-spec =

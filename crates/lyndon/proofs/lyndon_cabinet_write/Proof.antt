@@ -1,10 +1,10 @@
 -- `lyndon::lyndon_cabinet_write` meets its contract.
-use Rattle.lyndon.proofs.Replying.{written}
+use mathlib.Core.Path.{_∙_}
 use Rattle.lyndon.proofs.lyndon_cabinet_write.Statement.{statement}
 use Rattle.lyndon.proofs.lyndon_cabinet_write.Tie as tie
 
 returns : tie.Need-returns
-returns c = written (c .before .before .before .write .ensures) (c .verdict-number .ensures)
+returns c = let e = c .before .before .before .write .ensures in record { answers = c .verdict-number .ensures ∙ e .answers; leaves = e .leaves }
 
 pub lyndon-cabinet-write-spec : {M : Type 1} → statement M
 lyndon-cabinet-write-spec = tie.close (tie.spec (λ c κs. tt) (λ c κs. tt) (λ c. c .before .before .file .given) returns)

@@ -1,10 +1,10 @@
 -- `lyndon::lyndon_read` meets its contract.
-use Rattle.lyndon.proofs.Replying.{read}
+use mathlib.Core.Path.{_∙_}
 use Rattle.lyndon.proofs.lyndon_read.Statement.{statement}
 use Rattle.lyndon.proofs.lyndon_read.Tie as tie
 
 returns : tie.Need-returns
-returns c = read (c .before .before .before .before .before .read .ensures) (c .verdict-number .ensures)
+returns c = let e = c .before .before .before .before .before .read .ensures in record { answers = c .verdict-number .ensures ∙ e .answers; leaves = e .leaves }
 
 pub lyndon-read-spec : {M : Type 1} → statement M
 lyndon-read-spec = tie.close (tie.spec (λ c κs. tt) (λ c κs. tt) (λ c. c .before .before .before .before .previous .given) (λ c. c .before .before .next .given) returns)

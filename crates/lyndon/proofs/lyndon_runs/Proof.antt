@@ -1,10 +1,9 @@
 -- `lyndon::lyndon_runs` meets its contract.
-use Rattle.lyndon.proofs.Replying.{runs-reported}
 use Rattle.lyndon.proofs.lyndon_runs.Statement.{statement}
 use Rattle.lyndon.proofs.lyndon_runs.Tie as tie
 
 returns : tie.Need-returns
-returns c = runs-reported (c .before .before .before .before .before .before .before .before .before .before .before .before .before .before .before .before .before .before .before .report .ensures) (c .reply-of .ensures)
+returns c = record { figures = _; exactly = c .before .before .before .before .before .before .before .before .before .before .before .before .before .before .before .before .before .before .before .report .ensures; replies = c .reply-of .ensures }
 
 pub lyndon-runs-spec : {M : Type 1} → statement M
 lyndon-runs-spec =

@@ -76,23 +76,23 @@ ended v =
 returns : tie.Need-returns
 returns c =
     let s = c .before .before .before .before .before .before .before .before .before .before .before in
-    refused-by-lengths (y s) (work s) (lent s) _ (says-work _ _ _ _ _ (omega arith) (roots.says-one (length (s .args .letters .now)) (map length (work s)) (omega arith) (omega arith)) ∙ same s)
+    refused-by-lengths (y s) (work s) (lent s) _ (omega arith) (says-work _ _ _ _ _ (omega arith) (roots.says-one (length (s .args .letters .now)) (map length (work s)) (omega arith) (omega arith)) ∙ same s)
 
 returns-2 : tie.Need-returns-2
 returns-2 c =
     let s = c .before .before .before .before .before .before .before .before .before .before .before .before .before in
-    refused-by-lengths (y s) (work s) (lent s) _
+    refused-by-lengths (y s) (work s) (lent s) _ (omega arith)
     (says-work _ _ _ _ _ (omega arith) (roots.says-two (length (s .args .letters .now)) (map length (work s)) (omega arith) (c .before .any-off .ensures) (c .if2 .taken) (omega arith)) ∙ same s)
 
 returns-3 : tie.Need-returns-3
 returns-3 c =
     let s = tested (c .before) in
-    refused-by-lengths (y s) (work s) (lent s) _ (says-twelve _ _ _ _ _ (none (c .before)) (omega arith) (omega arith) ∙ same s)
+    refused-by-lengths (y s) (work s) (lent s) _ (omega arith) (says-twelve _ _ _ _ _ (none (c .before)) (omega arith) (omega arith) ∙ same s)
 
 returns-4 : tie.Need-returns-4
 returns-4 c =
     let s = tested (c .before .before) in
-    refused-by-lengths (y s) (work s) (lent s) _ (says-twelve-too _ _ _ _ _ (none (c .before .before)) (omega arith) (omega arith) (omega arith) ∙ same s)
+    refused-by-lengths (y s) (work s) (lent s) _ (omega arith) (says-twelve-too _ _ _ _ _ (none (c .before .before)) (omega arith) (omega arith) (omega arith) ∙ same s)
 
 write-lists-requires : tie.Need-write-lists-requires
 write-lists-requires c κs =

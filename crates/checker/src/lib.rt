@@ -1,0 +1,59 @@
+// The check of a next table that others sent.
+ghost use mathlib.Core.Path.{_≡_};
+ghost use lib.ListN.{length};
+ghost use Rattle.suffix.specs.Ranks.{ranks};
+ghost use Rattle.refusal.specs.Numbers.{verdictNumber};
+ghost use Rattle.build.specs.Built.{tablesOf};
+ghost use Rattle.checker.specs.Checked.{findingOf, CheckedExactly};
+ghost use Rattle.checker.specs.Comparing.{comparedWith};
+use refusal::Refusal;
+use refusal::Verdict;
+
+pub enum Checked {
+    Right,
+    WrongAt(usize),
+    Refused(Refusal),
+}
+
+// What is found in a claimed table beside the one that is built, unless the build is refused.
+fn compared(built: Verdict, claimed: &[u32], table: &[u32]) -> Checked
+    requires { ⌜ (verdictNumber built ≡ 0 → length (now claimed) ≡ length (now table)) ⌝ }
+    ensures { λ r. ⌜ findingOf r ≡ comparedWith (verdictNumber built) (now (claimed .entry)) (now (table .entry)) ⌝ }
+{
+    if let Verdict::Refused(refusal) = built {
+        return Checked::Refused(refusal);
+    }
+    let n = table.len();
+    let mut i = 0;
+    while i < n {
+        if claimed[i] != table[i] {
+            return Checked::WrongAt(i);
+        }
+        i += 1;
+    }
+    Checked::Right
+}
+
+// Whether a claimed table is the next table of the letters, or else the least position whose entry is wrong. The work tables are left as a
+// finished build leaves its four. A refusal writes nothing.
+pub fn check(
+    letters: &[u8],
+    claimed: &[u32],
+    previous: &mut [u32],
+    next: &mut [u32],
+    previous_match: &mut [u32],
+    next_match: &mut [u32],
+) -> Checked
+    ensures { λ r.
+        ⌜ CheckedExactly (ranks (now (letters .entry))) (now (claimed .entry))
+        (tablesOf (now (previous .entry)) (now (next .entry)) (now («previous_match» .entry)) (now («next_match» .entry)))
+        (tablesOf (now (previous .exit)) (now (next .exit)) (now («previous_match» .exit)) (now («next_match» .exit)))
+        (findingOf r) ⌝ }
+{
+    // 1 comes before 2, and the build finds it
+    if letters.len() <= 1000000 && claimed.len() != letters.len() {
+        return Checked::Refused(Refusal::TableLength);
+    }
+    let built = build::build_tables(letters, false, previous, next, previous_match, next_match);
+    compared(built, claimed, next)
+}

@@ -1,0 +1,18 @@
+-- `lyndon::lyndon_check` meets its contract.
+use Rattle.lyndon.proofs.lyndon_check.Statement.{statement}
+use Rattle.lyndon.proofs.lyndon_check.Tie as tie
+
+returns : tie.Need-returns
+returns c = record { figures = _; exactly = c .before .before .before .before .before .before .before .before .before .check .ensures; replies = c .check-reply .ensures }
+
+pub lyndon-check-spec : {M : Type 1} → statement M
+lyndon-check-spec =
+    tie.close
+    (tie.spec
+    (λ c κs. tt)
+    (λ c κs. tt)
+    (λ c. c .before .before .before .before .before .before .before .before .previous .given)
+    (λ c. c .before .before .before .before .before .before .next .given)
+    (λ c. c .before .before .before .before .previous-match .given)
+    (λ c. c .before .before .next-match .given)
+    returns)
