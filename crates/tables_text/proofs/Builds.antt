@@ -16,10 +16,9 @@ use Rattle.suffix.proofs.Search.{tabulate-length, tabulate-entry}
 use Rattle.suffix.proofs.Laws.{allRowsGiveAllEntries}
 use Rattle.refusal.specs.Numbers.{lowest, lowestFrom}
 use Rattle.refusal.specs.Conditions.{buildRefusal}
-use Rattle.build.specs.declared.Built.{Built}
 use Rattle.reuse.specs.Steps.{comparisons}
 use Rattle.reuse.proofs.Laws.{stepsAreExact}
-use Rattle.build.specs.Built.{Lent, lentAfter, figuresOf, refusalOf, answer, BuiltExactly}
+use Rattle.build.specs.Built.{Lent, lentAfter, Figures, refusalOf, answer, BuiltExactly}
 use Rattle.build.proofs.Answers.{left-built}
 use Rattle.tables_text.specs.Text.{headText, lines, tablesText, tooLongText, programText, Rendered}
 use Rattle.writing.specs.Writing.{Wrote}
@@ -40,18 +39,18 @@ taken {n} {p} {q} {pm} {qm} {t} r =
       le-ltb n n (omega arith),
     )
 
-module _ (y : List ℕ) (before after : Lent) (b : Built) (accepted : refusalOf y (length y) before ≡ 0) (e : BuiltExactly y (length y) before after (figuresOf b)) where
-  counted : countOf (figuresOf b) ≡ comparisons y (length y)
+module _ (y : List ℕ) (before after : Lent) (f : Figures) (accepted : refusalOf y (length y) before ≡ 0) (e : BuiltExactly y (length y) before after f) where
+  counted : countOf f ≡ comparisons y (length y)
   unfolding answer
   counted =
       let z : countOf (answer y (length y) before) ≡ comparisons y (length y) =
       rw (eq-eqb (refusalOf y (length y) before) 0 accepted, eq-eqb (length y) (length y) refl, answer)
       in ap countOf (e .answers) ∙ z
 
-  few : length y ≤ 2048 → countOf (figuresOf b) ≤ mostCompared
+  few : length y ≤ 2048 → countOf f ≤ mostCompared
   few h = go (same? (length y) 0)
     where
-      go : Same (length y) 0 → countOf (figuresOf b) ≤ mostCompared
+      go : Same (length y) 0 → countOf f ≤ mostCompared
       go (same z) = let o = stepsAreExact y (length y) (omega arith) .at-zero z in omega (arith, counted, o .0, o .1)
       go (other z) = omega (arith, counted, e .bounded accepted .whole (omega arith) refl)
 
@@ -66,7 +65,7 @@ module _ (y : List ℕ) (before after : Lent) (b : Built) (accepted : refusalOf 
   unfolding lentAfter
   next-is = ap (λ (l : Lent). l .tables .next) left ∙ ap (λ t. t .next) (allRowsGiveAllEntries y)
 
-  pub exactly : WholeBuild y (after .tables .previous) (after .tables .next) (after .tree) (countOf (figuresOf b))
+  pub exactly : WholeBuild y (after .tables .previous) (after .tables .next) (after .tree) (countOf f)
   unfolding lentAfter
   exactly =
       record {
@@ -82,9 +81,9 @@ module _ (y : List ℕ) (before after : Lent) (b : Built) (accepted : refusalOf 
       }
 
 -- where the memory has room
-module _ (letters : List ℕ) {before after : Lent} {b : Built}
+module _ (letters : List ℕ) {before after : Lent} {f : Figures}
     (r : Room (length letters) (length (before .tables .previous)) (length (before .tables .next)) (length (before .tables .previousMatch)) (length (before .tables .nextMatch)) (length (before .tree)))
-    (e : BuiltExactly (ranks letters) (length letters) before after (figuresOf b)) where
+    (e : BuiltExactly (ranks letters) (length letters) before after f) where
   abbrev y : List ℕ
   y = ranks letters
 
@@ -93,14 +92,14 @@ module _ (letters : List ℕ) {before after : Lent} {b : Built}
   not-refused = rw (ranks-length letters) (taken r)
 
   -- as many rows as ranks
-  all-rows : BuiltExactly y (length y) before after (figuresOf b)
+  all-rows : BuiltExactly y (length y) before after f
   all-rows = rw (ranks-length letters) e
 
-  pub few-compared : countOf (figuresOf b) ≤ mostCompared
-  few-compared = few y before after b not-refused all-rows (omega (arith, ranks-length letters, r .few))
+  pub few-compared : countOf f ≤ mostCompared
+  few-compared = few y before after f not-refused all-rows (omega (arith, ranks-length letters, r .few))
 
-  pub whole-build : {c : ℕ} → c ≡ countOf (figuresOf b) → WholeBuild y (after .tables .previous) (after .tables .next) (after .tree) c
-  whole-build z = rw z (exactly y before after b not-refused all-rows)
+  pub whole-build : {c : ℕ} → c ≡ countOf f → WholeBuild y (after .tables .previous) (after .tables .next) (after .tree) c
+  whole-build z = rw z (exactly y before after f not-refused all-rows)
 
 tree-small : (y : List ℕ) → length y ≤ 2048 → length (treeBytes y (length y)) ≤ 512
 unfolding treeBytes
