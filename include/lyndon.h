@@ -1,4 +1,5 @@
-/* The Lyndon structure of a string: nearest smaller suffixes, their matches, and the bracket tree; and all its runs.
+/* The Lyndon structure of a string: nearest smaller suffixes, their matches, and the bracket tree; all its runs; and the check of a next
+ * table that others made.
  *
  * A string has n letters of one byte each, n from 0 to 1,000,000. Letters compare by their unsigned value, but small letters, bytes
  * 97 to 122, as the capitals, 65 to 90: a masked letter counts as the same letter. So A and a are equal, here and everywhere below,
@@ -66,7 +67,7 @@ extern "C" {
 /* The version of this header: it rises when a function is added, and with every change of a structure or a function, of what it
  * answers too. A program whose LYNDON_VERSION is not what lyndon_version() returns was compiled against another header than the
  * archive's, and is to be compiled again. */
-#define LYNDON_VERSION 3
+#define LYNDON_VERSION 4
 
 /* The version of the archive. */
 uint32_t lyndon_version(void);
@@ -119,6 +120,13 @@ typedef struct LyndonReply {
     uint32_t refusal; /* 0, or of a question 1, 3, 5, 6, 7, 8, of lyndon_runs 1, 2, 12, 13 */
     size_t value;     /* the answer, of lyndon_runs the number of runs; 0 where refused */
 } LyndonReply;
+
+/* The answer of lyndon_check. */
+typedef struct LyndonCheckReply {
+    uint32_t refusal; /* 0, or 1, 2 */
+    uint32_t right;   /* 1 where every entry of the claimed table is the defined one, else 0; 0 where refused */
+    size_t position;  /* the least position whose entry is wrong; 0 where none is, and where refused */
+} LyndonCheckReply;
 
 /* A part of the caller's string. */
 typedef struct LyndonPartReply {
@@ -199,6 +207,20 @@ LyndonReply lyndon_runs(const uint8_t *letters, size_t letters_length,
                         uint32_t *work_4, size_t work_4_length,
                         uint32_t *work_5, size_t work_5_length,
                         uint32_t *work_6, size_t work_6_length);
+
+/* Says whether `claimed` is the next table of `letters`, whoever made it and by whatever method: `right` is 1 exactly where every entry
+ * is the defined one, with n for none; else `position` is the least position whose entry is wrong. An entry of `claimed` may be any
+ * number of 32 bits. n is letters_length.
+ *
+ * Refusals: 1, 2 (for the claimed table or any of the four work tables).
+ * Memory: the claimed table is only read, and must not be lent as a work table too. A refusal leaves the four work tables as they were.
+ * Otherwise every entry of them is written, whichever the answer: they hold what lyndon_build leaves in its four after n rows. */
+LyndonCheckReply lyndon_check(const uint8_t *letters, size_t letters_length,
+                              const uint32_t *claimed, size_t claimed_length,
+                              uint32_t *previous, size_t previous_length,
+                              uint32_t *next, size_t next_length,
+                              uint32_t *previous_match, size_t previous_match_length,
+                              uint32_t *next_match, size_t next_match_length);
 
 /* Writes the cabinet file of the trees with the letter counts `counts`. `trees` holds them end to end. `file` has exactly the
  * file's length: 8 bytes, and for each count n 8 and ceil(n / 4) bytes. Its mark is LYN2. Returns the refusal, or 0.

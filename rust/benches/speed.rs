@@ -1,6 +1,6 @@
-//! Times the library beside plain Rust: builds and runs of 1,000,000 letters, how their cost grows, trees,
-//! and cabinets of them. `cargo bench -- runs` measures the runs alone, and so for `builds`, `trees` and
-//! `cabinets`.
+//! Times the library beside plain Rust: builds, checks and runs of 1,000,000 letters, how their cost grows,
+//! trees, and cabinets of them. `cargo bench -- runs` measures the runs alone, and so for `builds`, `checks`,
+//! `trees` and `cabinets`.
 //!
 //! Both sides take turns in one run, on the same input and the same buffers, which are not cleared
 //! between. Each answer is compared with the first one, outside the measured time. The time is that which
@@ -227,6 +227,29 @@ fn measure_growth_of_builds() {
     for (k, (kind, _)) in columns[0].iter().enumerate() {
         let cells = columns.each_ref().map(|column| column[k].1.as_str());
         println!("| {kind} | {} |", cells.join(" | "));
+    }
+}
+
+/// Checks of right next tables, which look at every entry.
+fn compare_checks() {
+    println!("\nChecks of right next tables of {LETTERS} letters, {BUILD_ROUNDS} rounds.");
+    print_head(&format!("letters | {}", Comparison::COLUMNS));
+    let mut work: [Vec<u32>; 4] = std::array::from_fn(|_| vec![0; LETTERS]);
+    for (kind, letters) in kinds_for_builds(&mut Random::new(47), LETTERS) {
+        let claimed = fast::structure(&letters, LETTERS).tables.next;
+        let comparison = Comparison::run(
+            BUILD_ROUNDS,
+            &mut work,
+            |[a, b, c, d]| {
+                let found = lyndon::check_into(black_box(&letters), &claimed, a, b, c, d);
+                found.expect("not refused") == lyndon::Checked::Right
+            },
+            |[a, b, c, d]| {
+                let wrong = fast::check(black_box(&letters), &claimed, a, b, c, d);
+                wrong.expect("not refused").is_none()
+            },
+        );
+        println!("| {kind} | {} |", comparison.row());
     }
 }
 
@@ -485,6 +508,9 @@ fn main() {
     if asked("builds") {
         compare_builds();
         measure_growth_of_builds();
+    }
+    if asked("checks") {
+        compare_checks();
     }
     if asked("runs") {
         compare_runs();

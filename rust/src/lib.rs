@@ -1,7 +1,7 @@
 //! The Lyndon structure of a string: for each position the nearest smaller suffix before and after
 //! it, the letters they share, and the bracket tree of the previous smaller suffixes. Many trees fit in
 //! one cabinet file, written by [`cabinet_write`] and read by [`cabinet_read`]. [`runs()`] gives all tandem
-//! repeats.
+//! repeats, and [`check`] says whether a next table that others made is right.
 //!
 //! This is a safe wrapper of `liblyndon.a`. Nothing has to be tested before a call: every input is
 //! answered, by a value or by a [`Refusal`], and a refusal writes nothing to the lent memory, but for
@@ -36,6 +36,10 @@
 //!
 //! assert_eq!(lyndon::longest_word(b"banana", 1)?, b"an");
 //! assert_eq!(lyndon::runs(b"banana")?, [lyndon::Run { start: 1, end: 6, period: 2 }]);
+//!
+//! // A next table that others made.
+//! assert_eq!(lyndon::check(b"banana", &[1, 3, 3, 5, 5, 6])?, lyndon::Checked::Right);
+//! assert_eq!(lyndon::check(b"banana", &[1, 3, 4, 5, 5, 0])?, lyndon::Checked::WrongAt(2));
 //!
 //! // Masked letters count as the same, and a word is a part of the string as it stands.
 //! assert_eq!(Structure::of(b"baNAna")?, Structure::of(b"banana")?);
@@ -76,8 +80,8 @@ pub enum Refusal {
     /// 1: n above 1,000,000. Writing a cabinet: a letter count above 1,000,000.
     TooLong = 1,
     /// 2: a lent table not exactly n entries of 32 bits long (four tables for the build, previous and
-    /// next for reading a tree, six work tables for the runs). [`runs_into`]: work memory of fewer
-    /// than [`runs_work_length`]`(n)` entries.
+    /// next for reading a tree, six work tables for the runs, the claimed table and four work tables for
+    /// a check). [`runs_into`]: work memory of fewer than [`runs_work_length`]`(n)` entries.
     TableLength = 2,
     /// 3: the tree not exactly ceil(n/4) bytes. Writing a cabinet: the trees or the buffer not exactly
     /// as many bytes as the letter counts ask for.
@@ -417,6 +421,75 @@ pub fn runs_into(
     });
     let reply = raw::runs(letters, [starts, ends, periods], tables);
     Refusal::check(reply.refusal).map(|()| reply.value)
+}
+
+/// What is found in a claimed next table.
+#[derive(Debug, Clone, Copy, PartialEq, Eq, Hash)]
+pub enum Checked {
+    /// Every entry is the defined one.
+    Right,
+    /// The least position whose entry is wrong.
+    WrongAt(usize),
+}
+
+/// Says whether `claimed` is the next table of `letters`, whoever made it and by whatever method: every
+/// entry is the defined one, n for none. Else it gives the least position whose entry is wrong.
+///
+/// An entry of `claimed` may be any number.
+///
+/// ```
+/// use lyndon::Checked;
+///
+/// let next = lyndon::Structure::of(b"mississippi")?.next;
+/// assert_eq!(lyndon::check(b"mississippi", &next)?, Checked::Right);
+/// assert_eq!(lyndon::check(b"MissIssippi", &next)?, Checked::Right);
+/// assert_eq!(lyndon::check(b"mississippo", &next)?, Checked::WrongAt(7));
+/// # Ok::<(), lyndon::Refusal>(())
+/// ```
+///
+/// This takes memory for 4 n numbers of 32 bits, and gives it back; whoever checks often, or wants the
+/// tables that the check builds, lends it by [`check_into`].
+///
+/// # Errors
+///
+/// Refusals 1 and 2, the latter where `claimed` has not exactly n entries.
+pub fn check(letters: &[u8], claimed: &[u32]) -> Result<Checked, Refusal> {
+    let n = lent_entries(letters);
+    let [mut previous, mut next, mut previous_match, mut next_match] =
+        std::array::from_fn(|_| vec![0; n]);
+    check_into(
+        letters,
+        claimed,
+        &mut previous,
+        &mut next,
+        &mut previous_match,
+        &mut next_match,
+    )
+}
+
+/// Checks a claimed next table as [`check`] does, in lent memory.
+///
+/// With n letters, each of the four work tables has n entries. All of them are written, whatever they held
+/// before and whichever the answer: they hold the four tables that [`build`] leaves after n rows.
+///
+/// # Errors
+///
+/// Refusals 1 and 2, the latter for `claimed` or any work table. Nothing is written then.
+pub fn check_into(
+    letters: &[u8],
+    claimed: &[u32],
+    previous: &mut [u32],
+    next: &mut [u32],
+    previous_match: &mut [u32],
+    next_match: &mut [u32],
+) -> Result<Checked, Refusal> {
+    let reply = raw::check(letters, claimed, previous, next, previous_match, next_match);
+    Refusal::check(reply.refusal)?;
+    Ok(if reply.right != 0 {
+        Checked::Right
+    } else {
+        Checked::WrongAt(reply.position)
+    })
 }
 
 /// The length in bytes of the cabinet file of trees with these letter counts: 8, and for each count n

@@ -1,8 +1,8 @@
-//! The functions of `liblyndon.a` as they are exported, and the build and the runs over slices. A slice passes as a pointer and a
-//! length. `include/lyndon.h` declares the same.
+//! The functions of `liblyndon.a` as they are exported, and the build, the runs and the check over slices. A slice passes as a
+//! pointer and a length. `include/lyndon.h` declares the same.
 
 /// The version of these declarations, `LYNDON_VERSION` in the header. [`lyndon_version`] returns that of the archive.
-pub const VERSION: u32 = 3;
+pub const VERSION: u32 = 4;
 
 /// The answer of [`lyndon_build`].
 #[repr(C)]
@@ -30,6 +30,18 @@ pub struct Reply {
     pub refusal: u32,
     /// The answer, 0 where refused.
     pub value: usize,
+}
+
+/// The answer of [`lyndon_check`].
+#[repr(C)]
+#[derive(Debug, Clone, Copy, PartialEq, Eq)]
+pub struct CheckReply {
+    /// The refusal's number, 0 where not refused.
+    pub refusal: u32,
+    /// 1 where every entry of the claimed table is the defined one, else 0.
+    pub right: u32,
+    /// The least position whose entry is wrong, 0 where none is and where refused.
+    pub position: usize,
 }
 
 /// A part of the caller's string.
@@ -117,6 +129,34 @@ pub fn runs(letters: &[u8], lists: [&mut [u32]; 3], work: [&mut [u32]; 6]) -> Re
             work_5.len(),
             work_6.as_mut_ptr(),
             work_6.len(),
+        )
+    }
+}
+
+/// [`lyndon_check`] over slices.
+pub fn check(
+    letters: &[u8],
+    claimed: &[u32],
+    previous: &mut [u32],
+    next: &mut [u32],
+    previous_match: &mut [u32],
+    next_match: &mut [u32],
+) -> CheckReply {
+    // SAFETY: each pointer comes from a slice with its length, and exclusive slices do not overlap.
+    unsafe {
+        lyndon_check(
+            letters.as_ptr(),
+            letters.len(),
+            claimed.as_ptr(),
+            claimed.len(),
+            previous.as_mut_ptr(),
+            previous.len(),
+            next.as_mut_ptr(),
+            next.len(),
+            previous_match.as_mut_ptr(),
+            previous_match.len(),
+            next_match.as_mut_ptr(),
+            next_match.len(),
         )
     }
 }
@@ -222,6 +262,26 @@ extern "C" {
         work_6: *mut u32,
         work_6_length: usize,
     ) -> Reply;
+
+    /// Checks a claimed next table. The work tables are left as by a finished build.
+    ///
+    /// # Safety
+    ///
+    /// As for [`lyndon_build`].
+    pub fn lyndon_check(
+        letters: *const u8,
+        letters_length: usize,
+        claimed: *const u32,
+        claimed_length: usize,
+        previous: *mut u32,
+        previous_length: usize,
+        next: *mut u32,
+        next_length: usize,
+        previous_match: *mut u32,
+        previous_match_length: usize,
+        next_match: *mut u32,
+        next_match_length: usize,
+    ) -> CheckReply;
 
     /// Writes a cabinet file, with the mark `LYN2`. Returns the refusal's number, 0 where written.
     ///

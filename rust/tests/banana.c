@@ -137,6 +137,26 @@ static int runs_agree(void)
         && starts[1] == 0 && ends[1] == 0 && periods[1] == 0;
 }
 
+/* Whether a check says of a claimed table that it is right, or that this position is the least that is wrong; and leaves what a build
+ * does. */
+static int is_checked(const uint32_t *claimed, uint32_t right, size_t position)
+{
+    LyndonCheckReply reply = lyndon_check(letters, N, claimed, N, work[0], N, work[1], N, work[2], N, work[3], N);
+    return reply.refusal == 0 && reply.right == right && reply.position == position
+        && memcmp(work[0], previous, sizeof previous) == 0 && memcmp(work[1], next, sizeof next) == 0
+        && memcmp(work[2], previous_match, sizeof previous_match) == 0
+        && memcmp(work[3], next_match, sizeof next_match) == 0;
+}
+
+/* Whether banana's next table is right, two others are wrong at 2 and at 5, and a shorter one is refused. */
+static int check_agrees(void)
+{
+    static const uint32_t twice_wrong[N] = {1, 3, 4, 5, 5, 0}, beyond_none[N] = {1, 3, 3, 5, 5, 7};
+    LyndonCheckReply shorter = lyndon_check(letters, N, next, N - 1, work[0], N, work[1], N, work[2], N, work[3], N);
+    return is_checked(next, 1, 0) && is_checked(twice_wrong, 0, 2) && is_checked(beyond_none, 0, 5)
+        && shorter.refusal == LYNDON_WRONG_TABLE_LENGTH && shorter.right == 0 && shorter.position == 0;
+}
+
 int main(void)
 {
     size_t i;
@@ -166,6 +186,9 @@ int main(void)
     }
     if (!runs_agree()) {
         return failed("lyndon_runs");
+    }
+    if (!check_agrees()) {
+        return failed("lyndon_check");
     }
 
     printf("length %d comparisons %lu tree ", N, (unsigned long)(built.equal + built.unequal));

@@ -51,6 +51,10 @@ int main(void)
     SHOW(offsetof(LyndonReply, refusal));
     SHOW(offsetof(LyndonReply, value));
     SHOW(sizeof(LyndonReply));
+    SHOW(offsetof(LyndonCheckReply, refusal));
+    SHOW(offsetof(LyndonCheckReply, right));
+    SHOW(offsetof(LyndonCheckReply, position));
+    SHOW(sizeof(LyndonCheckReply));
     SHOW(offsetof(LyndonPartReply, refusal));
     SHOW(offsetof(LyndonPartReply, start));
     SHOW(offsetof(LyndonPartReply, length));

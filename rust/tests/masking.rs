@@ -5,7 +5,7 @@
 mod common;
 
 use common::{assert_build, assert_runs, assert_tree_of_build, assert_word, FILLS};
-use lyndon::{raw, Structure};
+use lyndon::{raw, Checked, Structure};
 use reference::ranks::rank;
 use reference::samples::{self, Random};
 use reference::{definitions, runs};
@@ -80,6 +80,7 @@ fn assert_same_answers(random: &mut Random, letters: &[u8], masked: &[u8]) {
     let halted = [letters, masked].map(|letters| Structure::halted(letters, rows));
     assert!(halted[0] == halted[1], "{rows} rows");
     assert!(lyndon::runs(letters) == lyndon::runs(masked));
+    assert_eq!(lyndon::check(masked, &whole.next), Ok(Checked::Right));
     for _ in 0..10 {
         let position = random.below(n);
         let end = whole.next[position] as usize;

@@ -33,6 +33,12 @@ pub fn next(letters: &[u8], i: usize) -> Option<usize> {
     (i + 1..letters.len()).find(|&j| suffix_less(letters, j, i))
 }
 
+/// The least position whose entry in a claimed next table of n entries is not the defined one.
+pub fn least_wrong(letters: &[u8], claimed: &[u32]) -> Option<usize> {
+    let n = letters.len();
+    (0..n).find(|&i| claimed[i] as usize != next(letters, i).unwrap_or(n))
+}
+
 /// The four tables after `rows` rows.
 pub fn tables(letters: &[u8], rows: usize) -> Tables {
     let n = letters.len();

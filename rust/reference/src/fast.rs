@@ -1,5 +1,5 @@
-//! A plain Rust build by the same reuse steps, in either order, and the longest Lyndon word, usable at
-//! 1,000,000 letters. The benchmark compares the library with this code.
+//! A plain Rust build by the same reuse steps, in either order, the check of a claimed next table, and the
+//! longest Lyndon word, usable at 1,000,000 letters. The benchmark compares the library with this code.
 
 use crate::ranks::rank;
 use crate::{refusals, Figures, Structure, Tables};
@@ -192,6 +192,27 @@ pub fn build(
         unequal: window.unequal,
         reach: window.reach,
     })
+}
+
+/// The least position whose entry in a claimed next table is wrong, none where the table is right; or the
+/// number of a refusal. The four tables are those of all letters then.
+pub fn check(
+    letters: &[u8],
+    claimed: &[u32],
+    previous: &mut [u32],
+    next: &mut [u32],
+    previous_match: &mut [u32],
+    next_match: &mut [u32],
+) -> Result<Option<usize>, u32> {
+    let work = [
+        previous.len(),
+        next.len(),
+        previous_match.len(),
+        next_match.len(),
+    ];
+    refusals::first(&refusals::of_check(letters.len(), claimed.len(), work))?;
+    tables::<false>(letters, previous, next, previous_match, next_match);
+    Ok(claimed.iter().zip(&*next).position(|(a, b)| a != b))
 }
 
 /// The whole answer of a build of `rows` rows, `rows` at most n, in memory of its own.

@@ -68,6 +68,14 @@ pub fn of_word(n: usize, position: usize) -> Vec<u32> {
     applying([(1, too_long(n)), (5, position >= n)])
 }
 
+/// Checking a claimed next table: 1, 2.
+pub fn of_check(n: usize, claimed: usize, work: [usize; 4]) -> Vec<u32> {
+    applying([
+        (1, too_long(n)),
+        (2, table_length(n, &[claimed]) || table_length(n, &work)),
+    ])
+}
+
 /// Runs: 1, 2, 12, 13. The lists are the starts, the ends and the periods; `runs` is the number of runs,
 /// of which a list has too few entries for 13.
 pub fn of_runs(n: usize, work: [usize; 6], lists: [usize; 3], runs: usize) -> Vec<u32> {

@@ -7,7 +7,7 @@ use std::fmt::Debug;
 
 use lyndon::{raw, Built, Refusal};
 use reference::runs::{self, Run};
-use reference::{fast_brackets, Structure};
+use reference::{fast_brackets, Structure, Tables};
 
 /// A question put to a tree: n, the tree's bytes and a position. A refusal is its number.
 pub type Question = fn(usize, &[u8], usize) -> Result<usize, u32>;
@@ -164,6 +164,55 @@ impl Lent {
         self.next_match.assert_untouched();
         self.tree.assert_untouched();
     }
+}
+
+/// The memory that a check is lent: previous, next, previous-match and next-match.
+pub struct LentForCheck(pub [Guarded<u32>; 4]);
+
+impl LentForCheck {
+    /// Work tables of the given lengths.
+    pub fn new(work: [usize; 4], fill: Fill) -> LentForCheck {
+        LentForCheck(work.map(|length| Guarded::new(length, fill)))
+    }
+
+    /// Checks through the exported function.
+    pub fn check_raw(&mut self, letters: &[u8], claimed: &[u32]) -> raw::CheckReply {
+        let [previous, next, previous_match, next_match] = self.0.each_mut().map(Guarded::lent);
+        raw::check(letters, claimed, previous, next, previous_match, next_match)
+    }
+
+    /// Asserts that the work tables hold these tables.
+    pub fn assert_tables(&self, tables: &Tables) {
+        let names = ["previous", "next", "previous-match", "next-match"];
+        let expected = [
+            &tables.previous,
+            &tables.next,
+            &tables.previous_match,
+            &tables.next_match,
+        ];
+        for (k, name) in names.into_iter().enumerate() {
+            assert_list(name, self.0[k].contents(), expected[k]);
+        }
+    }
+}
+
+/// Asserts that a check finds what is expected, the least wrong position or none, and that the work tables
+/// hold the tables of the whole string then.
+pub fn assert_check(
+    letters: &[u8],
+    claimed: &[u32],
+    expected: Option<usize>,
+    tables: &Tables,
+    fill: Fill,
+) {
+    let mut lent = LentForCheck::new([letters.len(); 4], fill);
+    let reply = raw::CheckReply {
+        refusal: 0,
+        right: u32::from(expected.is_none()),
+        position: expected.unwrap_or(0),
+    };
+    assert_eq!(lent.check_raw(letters, claimed), reply);
+    lent.assert_tables(tables);
 }
 
 /// The memory that a report of runs is lent.
