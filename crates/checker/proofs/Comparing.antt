@@ -1,7 +1,7 @@
 -- The search for the least place where two tables differ, as the code goes it: what is left of it is the whole.
 use mathlib.Core.Path.{_≡_, refl, sym, ap, _∙_}
 use mathlib.Core.Logic.{_≢_}
-use mathlib.Core.Bool.{Bool, true, false, not}
+use mathlib.Core.Bool.{Bool, not}
 use mathlib.Core.List.{List}
 use Prim.Native.Nat.{ℕ, zero, suc, _+_, _-_, _≤_, _<_}
 use native.Mathlib.Omega.{arith}
@@ -39,12 +39,12 @@ module _ (claimed table : List ℕ) where
   starts = let z : n - 0 ≡ n = omega arith in record { most = omega arith; is = rw z }
 
   module _ {i : ℕ} (L : Left i) where
-    pub found-here : i < n → getD claimed i 0 ≢ getD table i 0 → wrongAt i ≡ foundAt n (leastDifference claimed table)
+    pub found-here : {k : ℕ} → k ≡ i → i < n → getD claimed i 0 ≢ getD table i 0 → wrongAt k ≡ foundAt n (leastDifference claimed table)
     unfolding leastFrom
-    found-here h e =
+    found-here q h e =
         let z : n - i ≡ suc (n - suc i) = omega arith in
         let w : leastDifference claimed table ≡ i = L .is ∙ rw (z, ne-eqb _ _ e, leastFrom) in
-        found-wrong (omega arith) ∙ ap (foundAt n) (sym w)
+        found-wrong (omega arith) ∙ ap (foundAt n) (q ∙ sym w)
 
     pub goes-on : i < n → getD claimed i 0 ≡ getD table i 0 → Left (i + 1)
     unfolding leastFrom

@@ -10,7 +10,7 @@ use Rattle.suffix.specs.Nearest.{next}
 use Rattle.suffix.specs.Rows.{Tables}
 use Rattle.refusal.specs.Numbers.{firstOf, unlessRefused}
 use Rattle.build.specs.Built.{tablesOf}
-use Rattle.checker.specs.Checked.{isWrong, leastWrong, Finding, right, wrongAt, refused, foundAt, checkRefusal, finding}
+use Rattle.checker.specs.Checked.{isWrong, leastWrong, right, wrongAt, refused, foundAt, checkRefusal, finding}
 
 -- baNana
 y : List ℕ

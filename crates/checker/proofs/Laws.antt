@@ -14,12 +14,11 @@ use Rattle.suffix.specs.Rows.{Tables, tablesAfter}
 use Rattle.suffix.proofs.Cases.{Same, same, other, same?, Tri, lt, eq, gt, tri}
 use Rattle.suffix.proofs.Search.{tabulate-length, tabulate-entry, tabulate-is, Least, found, absent, least}
 use Rattle.suffix.proofs.Laws.{allRowsGiveAllEntries}
-use Rattle.refusal.specs.declared.Refusal.{Refusal}
 use Rattle.refusal.specs.declared.Refusal.the-variants.{TooLong, TableLength}
 use Rattle.refusal.specs.declared.Verdict.{Verdict}
-use Rattle.refusal.specs.Numbers.{numberOf, verdictNumber, firstOf, numberIf, lowest, lowestFrom, unlessRefused}
+use Rattle.refusal.specs.Numbers.{verdictNumber, firstOf, numberIf, lowest, lowestFrom, unlessRefused}
 use Rattle.refusal.specs.Conditions.{tooLong, tableLengthOff, aTableLengthOff, tablesRefusal}
-use Rattle.refusal.proofs.Numbers.{positive, first-none, nothing-found, neither, unless-taken, unless-refused}
+use Rattle.refusal.proofs.Numbers.{first-none, nothing-found, neither, unless-taken, unless-refused}
 use Rattle.refusal.proofs.Tables.{not-off}
 use Rattle.build.specs.Built.{Lent, lentAfter, tablesRefusalOf, TablesBuilt}
 use Rattle.build.proofs.Answers.{left-built}
@@ -49,9 +48,9 @@ module _ (y claimed : List ℕ) (work : Tables) where
   abbrev claimOff : Bool
   claimOff = tableLengthOff (length y) (length claimed)
 
-  pub claimed-off : length y ≤ 1000000 → claimOff ≡ true → 2 ≡ checkRefusal y claimed work
+  pub claimed-off : length y ≤ 1000000 → claimOff ≡ true → {k : ℕ} → k ≡ 2 → k ≡ checkRefusal y claimed work
   unfolding checkRefusal firstOf
-  claimed-off h e = rw (le-ltb _ _ h, e)
+  claimed-off h e q = rw (le-ltb _ _ h, e) q
 
   pub as-build : claimOff ≡ false → checkRefusal y claimed work ≡ tablesRefusalOf y work
   unfolding checkRefusal tablesRefusalOf tablesRefusal
@@ -67,13 +66,11 @@ module _ (y claimed : List ℕ) (work : Tables) where
       let a = first-none _ _ (first-none _ _ e .1) in
       not-off _ _ (neither _ _ (nothing-found _ TableLength (a .0)) .0)
 
-  finding-refused : (k : Refusal) → numberOf k ≡ checkRefusal y claimed work → refused (numberOf k) ≡ finding y claimed work
-  unfolding finding
-  finding-refused k e = ap refused e ∙ sym (unless-refused _ _ _ (λ z. omega (arith, positive k)))
-
-  pub refused-claim : (k : Refusal) → numberOf k ≡ checkRefusal y claimed work → CheckedExactly y claimed work work (refused (numberOf k))
-  unfolding workAtExit
-  refused-claim k e = record { answers = finding-refused k e; leaves = sym (unless-refused _ _ _ (λ z. omega (arith, positive k))) }
+  pub refused-claim : {k : ℕ} → 0 < k → k ≡ checkRefusal y claimed work → CheckedExactly y claimed work work (refused k)
+  unfolding finding workAtExit
+  refused-claim h e =
+      let ne : checkRefusal y claimed work ≢ 0 = (λ z. omega (arith, h, e, z)) in
+      record { answers = ap refused e ∙ sym (unless-refused _ _ _ ne); leaves = sym (unless-refused _ _ _ ne) }
 
 -- the build, over the same tables, is refused where the check is
 module _ (y claimed : List ℕ) {before after : Tables} {verdict : Verdict} (B : TablesBuilt y before after verdict)

@@ -1,5 +1,5 @@
 -- `checker::check` meets its contract, by the build's and the laws of proofs/Laws.antt.
-use mathlib.Core.Path.{_≡_, sym, ap, _∙_}
+use mathlib.Core.Path.{_≡_, ap, _∙_}
 use mathlib.Core.Logic.{⊎-elim}
 use native.Mathlib.Omega.{arith}
 use lib.ListN.{length}
@@ -7,7 +7,6 @@ use borrow.Author.Needs.{needs}
 use Rattle.suffix.specs.Ranks.{ranks}
 use Rattle.suffix.specs.Rows.{Tables}
 use Rattle.suffix.proofs.Ranks.{ranks-length}
-use Rattle.refusal.specs.declared.Refusal.the-variants.{TableLength}
 use Rattle.refusal.specs.Conditions.{tableLengthOff}
 use Rattle.build.specs.Built.{tablesOf, tablesRefusalOf}
 use Rattle.checker.specs.Checked.{checkRefusal}
@@ -27,8 +26,8 @@ returns : tie.Need-returns
 returns c =
     let s = c .before .before .before .before .before .before .before .before in
     let y = ranks (s .args .letters .now) in
-    laws.refused-claim y (s .args .claimed .now) (work s) TableLength
-    (laws.claimed-off y (s .args .claimed .now) (work s) (omega (arith, c .before .if1 .taken, ranks-length (s .args .letters .now))) (by-ranks s ∙ c .if2 .taken))
+    laws.refused-claim y (s .args .claimed .now) (work s) (omega arith)
+    (laws.claimed-off y (s .args .claimed .now) (work s) (omega (arith, c .before .if1 .taken, ranks-length (s .args .letters .now))) (by-ranks s ∙ c .if2 .taken) (omega arith))
 
 abbrev start : tie.Joined1 → tie.Start
 start j = j .before .before .before .before .before .before .before

@@ -32,7 +32,7 @@ returns c =
 returns-2 : tie.Need-returns-2 Inv-loop μ-loop
 returns-2 c =
     let a = c .before .before .before in
-    found-here _ _ (a .before .loop .inv) (omega (arith, a .loop-test .taken)) (λ z. omega (arith, c .if1 .taken, z)) ∙ sym (unless-taken _ _ _ (taken (a .before .before)))
+    found-here _ _ (a .before .loop .inv) (omega arith) (omega (arith, a .loop-test .taken)) (λ z. omega (arith, c .if1 .taken, z)) ∙ sym (unless-taken _ _ _ (taken (a .before .before)))
 
 loop-again : tie.Need-loop-again Inv-loop μ-loop
 loop-again c = let a = c .before .before .before in goes-on _ _ (a .before .loop .inv) (omega (arith, a .loop-test .taken)) (omega (arith, c .if1 .left))
