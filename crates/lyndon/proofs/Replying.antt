@@ -10,10 +10,10 @@ use Rattle.refusal.specs.Answers as refusal
 use Rattle.word.specs.Word.{WordAnswered}
 use Rattle.word.proofs.Laws.{part-refused, start-refused, start-taken}
 use Rattle.cabinet.specs.Answers.{EntryRead}
-use Rattle.lyndon.specs.declared.Reply.{Reply}
-use Rattle.lyndon.specs.declared.PartReply.{PartReply}
-use Rattle.lyndon.specs.declared.CabinetReply.{CabinetReply}
-use Rattle.lyndon.specs.Replies.{reply, wordReply, cabinetReply}
+use Rattle.replies.specs.declared.Reply.{Reply}
+use Rattle.replies.specs.declared.PartReply.{PartReply}
+use Rattle.replies.specs.declared.CabinetReply.{CabinetReply}
+use Rattle.replies.specs.Replies.{reply, wordReply, cabinetReply}
 
 -- the longest word asked for at j, refused and not, and its figures
 module _ {letters part : RefT (List ℕ)} {i j number : ℕ} (e : WordAnswered letters j number part) (z : j ≡ i) where

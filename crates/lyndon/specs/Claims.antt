@@ -14,7 +14,7 @@ use Rattle.shape.specs.Claims.{firstBytes, forNone}
 use Rattle.brackets.specs.Answers as brackets
 use Rattle.repeats.specs.Refusals.{Lists}
 use Rattle.repeats.specs.Answers as repeats
-use Rattle.lyndon.specs.Replies.{wordReply}
+use Rattle.replies.specs.Replies.{wordReply}
 
 -- two tables of n entries are lent to a reader
 pub record Fits (n : ℕ) (tables : brackets.Lent) : Type 0 where

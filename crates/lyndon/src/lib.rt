@@ -1,97 +1,32 @@
 // The exported functions: each passes its arguments on to the crate that does the work.
 ghost use mathlib.Core.Path.{_≡_};
 ghost use Rattle.suffix.specs.Ranks.{ranks};
-ghost use Rattle.build.specs.Built.{tablesOf, lent, figuresOf as builtFigures, BuiltExactly};
-ghost use Rattle.checker.specs.Checked.{findingOf, CheckedExactly};
-ghost use Rattle.refusal.specs.Answers.{figuresOf};
+ghost use Rattle.build.specs.Built.{tablesOf, lent, BuiltExactly};
+ghost use Rattle.checker.specs.Checked.{CheckedExactly};
 ghost use Rattle.brackets.specs.Answers.{ReadBack};
 ghost use Rattle.questions.specs.Answers.{previousAnswer, nextAnswer, placeAnswer};
 ghost use Rattle.repeats.specs.Refusals.{lists};
 ghost use Rattle.runs.specs.Reported.{workOf, Reported};
 ghost use Rattle.cabinet.specs.Answers.{Written};
-ghost use Rattle.lyndon.specs.Replies.{interfaceVersion, Replied, buildReply, reply, checkReply, wordReply, cabinetReply};
-use build::Built;
-use checker::Checked;
-use refusal::Answer;
+ghost use Rattle.replies.specs.Replies.{Replied, buildReply, reply, checkReply, wordReply, cabinetReply};
+ghost use Rattle.lyndon.specs.Version.{interfaceVersion};
+use replies::BuildReply;
+use replies::CabinetReply;
+use replies::CheckReply;
+use replies::PartReply;
+use replies::Reply;
+use replies::build_reply;
+use replies::check_reply;
+use replies::reply_of;
 
 // LYNDON_VERSION of the header.
 const VERSION: u32 = 4;
-
-#[repr(C)]
-pub struct BuildReply {
-    pub refusal: u32,
-    pub finished: u32,
-    pub rows: usize,
-    pub equal: usize,
-    pub unequal: usize,
-    pub reach: usize,
-}
-
-#[repr(C)]
-pub struct Reply {
-    pub refusal: u32,
-    pub value: usize,
-}
-
-#[repr(C)]
-pub struct CheckReply {
-    pub refusal: u32,
-    pub right: u32,
-    pub position: usize,
-}
-
-#[repr(C)]
-pub struct PartReply {
-    pub refusal: u32,
-    pub start: usize,
-    pub length: usize,
-}
-
-#[repr(C)]
-pub struct CabinetReply {
-    pub refusal: u32,
-    pub mark: u32,
-    pub letters: u32,
-    pub start: usize,
-    pub length: usize,
-}
 
 #[no_mangle]
 pub extern "C" fn lyndon_version() -> u32
     ensures { λ r. ⌜ r ≡ interfaceVersion ⌝ }
 {
     VERSION
-}
-
-fn build_reply(built: Built) -> BuildReply
-    ensures { λ r. ⌜ r ≡ buildReply (builtFigures built) ⌝ }
-{
-    match built {
-        Built::Finished(k) => BuildReply {
-            refusal: 0,
-            finished: 1,
-            rows: k.rows,
-            equal: k.equal,
-            unequal: k.unequal,
-            reach: k.reach,
-        },
-        Built::Halted(k) => BuildReply {
-            refusal: 0,
-            finished: 0,
-            rows: k.rows,
-            equal: k.equal,
-            unequal: k.unequal,
-            reach: k.reach,
-        },
-        Built::Refused(k) => BuildReply {
-            refusal: refusal::number(k),
-            finished: 0,
-            rows: 0,
-            equal: 0,
-            unequal: 0,
-            reach: 0,
-        },
-    }
 }
 
 #[no_mangle]
@@ -130,21 +65,6 @@ pub extern "C" fn lyndon_read(n: usize, tree: &[u8], previous: &mut [u32], next:
         r ⌝ }
 {
     refusal::verdict_number(brackets::read(n, tree, previous, next))
-}
-
-fn reply_of(answer: Answer) -> Reply
-    ensures { λ r. ⌜ r ≡ reply (figuresOf answer) ⌝ }
-{
-    match answer {
-        Answer::Value(v) => Reply {
-            refusal: 0,
-            value: v,
-        },
-        Answer::NoValue(k) => Reply {
-            refusal: refusal::number(k),
-            value: 0,
-        },
-    }
 }
 
 #[no_mangle]
@@ -223,28 +143,6 @@ pub extern "C" fn lyndon_runs(
         ends,
         periods,
     ))
-}
-
-fn check_reply(checked: Checked) -> CheckReply
-    ensures { λ r. ⌜ r ≡ checkReply (findingOf checked) ⌝ }
-{
-    match checked {
-        Checked::Right => CheckReply {
-            refusal: 0,
-            right: 1,
-            position: 0,
-        },
-        Checked::WrongAt(i) => CheckReply {
-            refusal: 0,
-            right: 0,
-            position: i,
-        },
-        Checked::Refused(k) => CheckReply {
-            refusal: refusal::number(k),
-            right: 0,
-            position: 0,
-        },
-    }
 }
 
 #[no_mangle]

@@ -1,10 +1,10 @@
--- `lyndon::reply_of` meets its contract.
+-- `replies::reply_of` meets its contract.
 use mathlib.Core.Path.{sym, ap, _∙_}
 use Rattle.refusal.specs.Answers.{figuresOf, refused}
 use Rattle.refusal.specs.declared.Answer.{Answer}
-use Rattle.lyndon.specs.Replies.{reply}
-use Rattle.lyndon.proofs.reply_of.Statement.{statement}
-use Rattle.lyndon.proofs.reply_of.Tie as tie
+use Rattle.replies.specs.Replies.{reply}
+use Rattle.replies.proofs.reply_of.Statement.{statement}
+use Rattle.replies.proofs.reply_of.Tie as tie
 
 returns : tie.Need-returns
 unfolding reply

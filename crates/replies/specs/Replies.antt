@@ -10,15 +10,11 @@ use Rattle.refusal.specs.Answers as refusal
 use Rattle.word.specs.Word.{wordPart, wordStart}
 use Rattle.cabinet.specs.Refusals.{readRefusal}
 use Rattle.cabinet.specs.Answers.{readBody, readPlace, readLetters, readMark}
-use Rattle.lyndon.specs.declared.BuildReply.{BuildReply}
-use Rattle.lyndon.specs.declared.Reply.{Reply}
-use Rattle.lyndon.specs.declared.CheckReply.{CheckReply}
-use Rattle.lyndon.specs.declared.PartReply.{PartReply}
-use Rattle.lyndon.specs.declared.CabinetReply.{CabinetReply}
-
--- the version of the exported structures and functions: it rises when one is added and with every change of one, of what it answers too
-abbrev pub interfaceVersion : ℕ
-interfaceVersion = 4
+use Rattle.replies.specs.declared.BuildReply.{BuildReply}
+use Rattle.replies.specs.declared.Reply.{Reply}
+use Rattle.replies.specs.declared.CheckReply.{CheckReply}
+use Rattle.replies.specs.declared.PartReply.{PartReply}
+use Rattle.replies.specs.declared.CabinetReply.{CabinetReply}
 
 -- A reply that carries the figures of an operation, and these are as the operation's own record has them: what it answers, and what it leaves in
 -- the memory that is lent to it.

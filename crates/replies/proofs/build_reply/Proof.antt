@@ -1,11 +1,11 @@
--- `lyndon::build_reply` meets its contract.
+-- `replies::build_reply` meets its contract.
 use mathlib.Core.Path.{sym, ap, _∙_}
 use Rattle.build.specs.Built.{figuresOf, refused}
 use Rattle.build.specs.declared.Built.{Built}
-use Rattle.lyndon.specs.declared.BuildReply.{BuildReply}
-use Rattle.lyndon.specs.Replies.{buildReply}
-use Rattle.lyndon.proofs.build_reply.Statement.{statement}
-use Rattle.lyndon.proofs.build_reply.Tie as tie
+use Rattle.replies.specs.declared.BuildReply.{BuildReply}
+use Rattle.replies.specs.Replies.{buildReply}
+use Rattle.replies.proofs.build_reply.Statement.{statement}
+use Rattle.replies.proofs.build_reply.Tie as tie
 
 abbrev replied : Built → BuildReply
 replied b = buildReply (figuresOf b)

@@ -1,11 +1,11 @@
--- `lyndon::check_reply` meets its contract.
+-- `replies::check_reply` meets its contract.
 use mathlib.Core.Path.{sym, ap, _∙_}
 use Rattle.checker.specs.Checked.{findingOf, refused}
 use Rattle.checker.specs.declared.Checked.{Checked}
-use Rattle.lyndon.specs.declared.CheckReply.{CheckReply}
-use Rattle.lyndon.specs.Replies.{checkReply}
-use Rattle.lyndon.proofs.check_reply.Statement.{statement}
-use Rattle.lyndon.proofs.check_reply.Tie as tie
+use Rattle.replies.specs.declared.CheckReply.{CheckReply}
+use Rattle.replies.specs.Replies.{checkReply}
+use Rattle.replies.proofs.check_reply.Statement.{statement}
+use Rattle.replies.proofs.check_reply.Tie as tie
 
 abbrev replied : Checked → CheckReply
 replied k = checkReply (findingOf k)

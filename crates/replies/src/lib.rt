@@ -1,0 +1,116 @@
+// The replies of the exported functions, and those that carry an answer's figures.
+ghost use mathlib.Core.Path.{_≡_};
+ghost use Rattle.build.specs.Built.{figuresOf as builtFigures};
+ghost use Rattle.checker.specs.Checked.{findingOf};
+ghost use Rattle.refusal.specs.Answers.{figuresOf};
+ghost use Rattle.replies.specs.Replies.{buildReply, reply, checkReply};
+use build::Built;
+use checker::Checked;
+use refusal::Answer;
+
+#[repr(C)]
+pub struct BuildReply {
+    pub refusal: u32,
+    pub finished: u32,
+    pub rows: usize,
+    pub equal: usize,
+    pub unequal: usize,
+    pub reach: usize,
+}
+
+#[repr(C)]
+pub struct Reply {
+    pub refusal: u32,
+    pub value: usize,
+}
+
+#[repr(C)]
+pub struct CheckReply {
+    pub refusal: u32,
+    pub right: u32,
+    pub position: usize,
+}
+
+#[repr(C)]
+pub struct PartReply {
+    pub refusal: u32,
+    pub start: usize,
+    pub length: usize,
+}
+
+#[repr(C)]
+pub struct CabinetReply {
+    pub refusal: u32,
+    pub mark: u32,
+    pub letters: u32,
+    pub start: usize,
+    pub length: usize,
+}
+
+pub fn build_reply(built: Built) -> BuildReply
+    ensures { λ r. ⌜ r ≡ buildReply (builtFigures built) ⌝ }
+{
+    match built {
+        Built::Finished(k) => BuildReply {
+            refusal: 0,
+            finished: 1,
+            rows: k.rows,
+            equal: k.equal,
+            unequal: k.unequal,
+            reach: k.reach,
+        },
+        Built::Halted(k) => BuildReply {
+            refusal: 0,
+            finished: 0,
+            rows: k.rows,
+            equal: k.equal,
+            unequal: k.unequal,
+            reach: k.reach,
+        },
+        Built::Refused(k) => BuildReply {
+            refusal: refusal::number(k),
+            finished: 0,
+            rows: 0,
+            equal: 0,
+            unequal: 0,
+            reach: 0,
+        },
+    }
+}
+
+pub fn reply_of(answer: Answer) -> Reply
+    ensures { λ r. ⌜ r ≡ reply (figuresOf answer) ⌝ }
+{
+    match answer {
+        Answer::Value(v) => Reply {
+            refusal: 0,
+            value: v,
+        },
+        Answer::NoValue(k) => Reply {
+            refusal: refusal::number(k),
+            value: 0,
+        },
+    }
+}
+
+pub fn check_reply(checked: Checked) -> CheckReply
+    ensures { λ r. ⌜ r ≡ checkReply (findingOf checked) ⌝ }
+{
+    match checked {
+        Checked::Right => CheckReply {
+            refusal: 0,
+            right: 1,
+            position: 0,
+        },
+        Checked::WrongAt(i) => CheckReply {
+            refusal: 0,
+            right: 0,
+            position: i,
+        },
+        Checked::Refused(k) => CheckReply {
+            refusal: refusal::number(k),
+            right: 0,
+            position: 0,
+        },
+    }
+}
