@@ -1,13 +1,16 @@
 -- Each way out of a build answers, and leaves, what the definitions say.
-use mathlib.Core.Path.{_≡_, refl, ap, _∙_}
+use mathlib.Core.Path.{_≡_, refl, sym, ap, _∙_}
 use mathlib.Core.Logic.{_≢_}
+use mathlib.Core.Bool.{true}
 use mathlib.Core.List.{List}
 use Prim.Native.Nat.{ℕ, _≤_}
 use native.Mathlib.Omega.{arith}
+use lib.Dec.{eqb}
 use lib.ListN.{length}
 use borrow.Author.Tests.{eq-eqb, ne-eqb}
 use Rattle.suffix.specs.Rows.{tablesAfter, reach}
 use Rattle.suffix.specs.Tree.{treeLength, treeBytes}
+use Rattle.suffix.proofs.Cases.{Same, same, other, same?}
 use Rattle.refusal.specs.declared.Refusal.{Refusal}
 use Rattle.refusal.specs.Numbers.{numberOf}
 use Rattle.refusal.specs.Conditions.{buildRefusal}
@@ -17,10 +20,9 @@ use Rattle.reuse.specs.Steps.{BuildState, afterRows, equalComparisons, unequalC
 use Rattle.reuse.specs.Claims.{Exact}
 use Rattle.reuse.proofs.Exact.{exact}
 use Rattle.build.specs.declared.State.{State}
-use Rattle.build.specs.declared.Report.{Report}
-use Rattle.build.specs.declared.Built.the-variants.{Finished, Halted, Refused}
-use Rattle.build.specs.States.{buildState}
-use Rattle.build.specs.Built.{Lent, lentAfter, Figures, figuresOf, refusalOf, answer, lentAtExit, BuiltExactly}
+use Rattle.build.specs.declared.Built.the-variants.{Refused}
+use Rattle.build.specs.States.{buildState, figuresAt}
+use Rattle.build.specs.Built.{Lent, lentAfter, Figures, finished, halted, figuresOf, refusalOf, answer, lentAtExit, BuiltExactly}
 
 -- what is lent and asked for n letters, where it is not refused
 pub record Accepted (n R : ℕ) (before : Lent) : Type 0 where
@@ -38,6 +40,14 @@ accepted n R before e =
     let a = build-taken _ _ _ _ _ R (length (before .tree)) e in
     let u = a .0 in
     record { few = u .few; previous = u .previous; next = u .next; previousMatch = u .previousMatch; nextMatch = u .nextMatch; tree = a .1; rows = a .2 }
+
+-- the two answers of a build that is not refused, by what is told of the state
+module _ (s : State) (n : ℕ) {rows equal unequal reached : ℕ} where
+  pub at-n : s .rows ≡ n → rows ≡ s .rows → equal ≡ s .equal → unequal ≡ s .unequal → reached ≡ s .reach → finished rows equal unequal reached ≡ figuresAt n s
+  at-n e a b c d = rw (eq-eqb (s .rows) n e, figuresAt, a, b, c, d)
+
+  pub before-n : s .rows ≢ n → rows ≡ s .rows → equal ≡ s .equal → unequal ≡ s .unequal → reached ≡ s .reach → halted rows equal unequal reached ≡ figuresAt n s
+  before-n e a b c d = rw (ne-eqb (s .rows) n e, figuresAt, a, b, c, d)
 
 module _ (y : List ℕ) (R : ℕ) (before : Lent) where
   abbrev n : ℕ
@@ -58,48 +68,43 @@ module _ (y : List ℕ) (R : ℕ) (before : Lent) where
         bounded = λ z. absurd (omega (arith, positive k));
       }
 
-  -- a report tells the rows that are asked, and the counts and the reach of the state
-  pub record Told (s : State) (report : Report) : Type 0 where
-    pub rows : report .rows ≡ R
-    pub equal : report .equal ≡ s .equal
-    pub unequal : report .unequal ≡ s .unequal
-    pub reach : report .reach ≡ s .reach
-
   module _ (taken : refusalOf y R before ≡ 0) where
     fits : R ≤ n
     unfolding refusalOf
     fits = accepted n R before taken .rows
 
-    module _ (s : State) (after : Lent) (i : buildState s (after .tables) ≡ afterRows y R) (q : after .tree ≡ treeBytes y R)
-        {report : Report} (told : Told s report) where
+    module _ (s : State) (after : Lent) (i : buildState s (after .tables) ≡ afterRows y R) (q : after .tree ≡ treeBytes y R) (done : s .rows ≡ R) where
       E : Exact y R
       E = exact y R fits
 
       tables : after .tables ≡ tablesAfter y R
       tables = ap (λ (b : BuildState). b .tables) i ∙ E .tables
 
-      equals : report .equal ≡ equalComparisons y R
-      equals = told .equal ∙ ap (λ (b : BuildState). b .progress .equal) i
+      equals : s .equal ≡ equalComparisons y R
+      equals = ap (λ (b : BuildState). b .progress .equal) i
 
-      unequals : report .unequal ≡ unequalComparisons y R
-      unequals = told .unequal ∙ ap (λ (b : BuildState). b .progress .unequal) i
+      unequals : s .unequal ≡ unequalComparisons y R
+      unequals = ap (λ (b : BuildState). b .progress .unequal) i
 
-      reached : report .reach ≡ reach y R
-      reached = told .reach ∙ ap (λ (b : BuildState). b .progress .reach) i ∙ E .reached
+      reached : s .reach ≡ reach y R
+      reached = ap (λ (b : BuildState). b .progress .reach) i ∙ E .reached
 
-      exactly : (figures : Figures) → figures ≡ answer y R before → BuiltExactly y R before after figures
+      answered : (letters : ℕ) → letters ≡ n → figuresAt letters s ≡ answer y R before
+      unfolding answer
+      answered letters e = go (same? (s .rows) letters)
+        where
+          taken-is : eqb (refusalOf y R before) 0 ≡ true
+          taken-is = eq-eqb (refusalOf y R before) 0 taken
+
+          go : Same (s .rows) letters → figuresAt letters s ≡ answer y R before
+          go (same z) = sym (at-n s letters z refl refl refl refl) ∙ rw (taken-is, eq-eqb R n (omega arith), answer, done, equals, unequals, reached)
+          go (other z) = sym (before-n s letters z refl refl refl refl) ∙ rw (taken-is, ne-eqb R n (omega arith), answer, done, equals, unequals, reached)
+
+      pub built : {letters : ℕ} → letters ≡ n → {figures : Figures} → figures ≡ figuresAt letters s → BuiltExactly y R before after figures
       unfolding lentAtExit lentAfter
-      exactly figures a =
+      built e f =
           record {
-            answers = a;
+            answers = f ∙ answered _ e;
             leaves = rw (eq-eqb (refusalOf y R before) 0 taken, lentAtExit, ← q, ← tables);
             bounded = λ z. E .bounded;
           }
-
-      pub finished : R ≡ n → BuiltExactly y R before after (figuresOf (Finished report))
-      unfolding answer
-      finished h = exactly (figuresOf (Finished report)) (rw (eq-eqb (refusalOf y R before) 0 taken, eq-eqb R n h, answer, told .rows, equals, unequals, reached))
-
-      pub halted : R ≢ n → BuiltExactly y R before after (figuresOf (Halted report))
-      unfolding answer
-      halted h = exactly (figuresOf (Halted report)) (rw (eq-eqb (refusalOf y R before) 0 taken, ne-eqb R n h, answer, told .rows, equals, unequals, reached))

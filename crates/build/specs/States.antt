@@ -2,6 +2,7 @@
 use mathlib.Core.Bool.{Bool, true, false}
 use mathlib.Core.List.{List}
 use Prim.Native.Nat.{ℕ, _+_, _≤_, _<_}
+use lib.Dec.{eqb}
 use Rattle.suffix.specs.Ranks.{ranks, oriented}
 use Rattle.suffix.specs.Rows.{Tables}
 use Rattle.entries.specs.Cleared.{clearedFrom}
@@ -9,7 +10,7 @@ use Rattle.reuse.specs.Steps.{Progress, BuildState, ScanReport, SettledPair, se
 use Rattle.build.specs.declared.State.{State}
 use Rattle.build.specs.declared.ScanReport as declaredReport
 use Rattle.build.specs.declared.SettledPair as declared
-use Rattle.build.specs.Built.{tablesOf}
+use Rattle.build.specs.Built.{tablesOf, Figures, finished, halted}
 
 -- the string that the rows are of: the ranks of the letters, in their order or in its reverse
 abbrev pub stringOf : (reverse : Bool) → List ℕ → List ℕ
@@ -30,6 +31,11 @@ clearedTables n k t = tablesOf (clearedFrom k n (t .previous)) (clearedFrom k n 
 
 abbrev pub buildState : State → Tables → BuildState
 buildState s t = record { progress = progressOf s; tables = t }
+
+-- the figures of a build of n letters that ends in this state
+abbrev pub figuresAt : ℕ → State → Figures
+figuresAt n s =
+    elim (eqb (s .rows) n) [ true ↦ finished (s .rows) (s .equal) (s .unequal) (s .reach) | false ↦ halted (s .rows) (s .equal) (s .unequal) (s .reach) ]
 
 -- what is asked where (l, r) is settled from m, in a string of n letters: each place is in the string, and the counts fit
 pub record Safe (n : ℕ) (s : Progress) (l r m : ℕ) : Type 0 where

@@ -7,7 +7,7 @@ ghost use lib.ListN.{length, getD, set, take, replicate};
 ghost use Rattle.suffix.specs.Ranks.{ranks, oriented};
 ghost use Rattle.suffix.specs.Tree.{treeLength, treeBytes};
 ghost use Rattle.reuse.specs.Steps.{scan as stepScan, scanned, afterRows};
-ghost use Rattle.build.specs.States.{stringOf, progressOf, reportOf, pairOf, clearedTables, buildState, Safe, settledFrom};
+ghost use Rattle.build.specs.States.{stringOf, progressOf, reportOf, pairOf, clearedTables, buildState, figuresAt, Safe, settledFrom};
 ghost use Rattle.build.specs.Built.{tablesOf, lent, figuresOf, BuiltExactly, TablesBuilt};
 use entries::clear_from;
 use refusal::Refusal;
@@ -350,6 +350,22 @@ fn clear_tree(tree: &mut [u8])
     }
 }
 
+// The answer of a build of n letters that is not refused.
+fn answer(state: State, n: usize) -> Built
+    ensures { λ r. ⌜ figuresOf r ≡ figuresAt n state ⌝ }
+{
+    let report = Report {
+        rows: state.rows,
+        equal: state.equal,
+        unequal: state.unequal,
+        reach: state.reach,
+    };
+    if state.rows == n {
+        return Built::Finished(report);
+    }
+    Built::Halted(report)
+}
+
 // Builds the four tables and the tree of the letters, as they are after `rows` rows. A refusal writes nothing.
 pub fn build(
     letters: &[u8],
@@ -391,16 +407,7 @@ pub fn build(
         tree,
     );
     clear_tables(n, rows, previous, next, previous_match, next_match);
-    let report = Report {
-        rows: state.rows,
-        equal: state.equal,
-        unequal: state.unequal,
-        reach: state.reach,
-    };
-    if rows == n {
-        return Built::Finished(report);
-    }
-    Built::Halted(report)
+    answer(state, n)
 }
 
 // Builds the four tables of all letters and no tree, in the order of the letters or in its reverse. A refusal writes nothing.

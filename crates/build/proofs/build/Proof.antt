@@ -123,16 +123,8 @@ exact t = ap (buildState (built t .build-rows .result)) (t .clear-tables .ensure
 returns-2 : tie.Need-returns-2
 returns-2 c =
     let t = c .before .before .before .before .before .before .before .before .before in
-    let e = built t .build-rows .ensures in
-    answers.finished _ _ _ (taken (told (built t))) (built t .build-rows .result) (after t) (exact t) (tree-is t)
-    (record { rows = omega (arith, e .1 .1); equal = omega arith; unequal = omega arith; reach = omega arith }) (c .if1 .taken ∙ sym (same (start (told (built t)))))
-
-returns-3 : tie.Need-returns-3
-returns-3 c =
-    let t = c .before .before .before .before .before .before .before .before .before in
-    let e = built t .build-rows .ensures in
-    answers.halted _ _ _ (taken (told (built t))) (built t .build-rows .result) (after t) (exact t) (tree-is t)
-    (record { rows = omega (arith, e .1 .1); equal = omega arith; unequal = omega arith; reach = omega arith }) (λ e. c .if1 .left (e ∙ same (start (told (built t)))))
+    let s = start (told (built t)) in
+    answers.built _ _ _ (taken (told (built t))) (built t .build-rows .result) (after t) (exact t) (tree-is t) (built t .build-rows .ensures .1 .1) (sym (same s)) (c .answer .ensures)
 
 pub build-spec : {M : Type 1} → statement M
 build-spec =
@@ -145,15 +137,10 @@ build-spec =
     (λ c κs. tt)
     build-rows-requires
     clear-tables-requires
+    (λ c κs. tt)
     (λ c. same-previous (c .before))
     (λ c. same-next (c .before))
     (λ c. same-previous-match (c .before))
     (λ c. same-next-match (c .before))
     (λ c. same-tree (c .before))
-    returns-2
-    (λ c. same-previous (c .before))
-    (λ c. same-next (c .before))
-    (λ c. same-previous-match (c .before))
-    (λ c. same-next-match (c .before))
-    (λ c. same-tree (c .before))
-    returns-3)
+    returns-2)
