@@ -208,9 +208,9 @@ LyndonReply lyndon_runs(const uint8_t *letters, size_t letters_length,
                         uint32_t *work_5, size_t work_5_length,
                         uint32_t *work_6, size_t work_6_length);
 
-/* Says whether `claimed` is the next table of `letters`, whoever made it and by whatever method: `right` is 1 exactly where every entry
- * is the defined one, with n for none; else `position` is the least position whose entry is wrong. An entry of `claimed` may be any
- * number of 32 bits. n is letters_length.
+/* Says whether `claimed` is the next table of `letters`, whoever made it and by whatever method. Where it is not refused, `right` is 1
+ * exactly if every entry is the defined one, with n for none; else `position` is the least position whose entry is wrong. An entry of
+ * `claimed` may be any number of 32 bits. n is letters_length.
  *
  * Refusals: 1, 2 (for the claimed table or any of the four work tables).
  * Memory: the claimed table is only read, and must not be lent as a work table too. A refusal leaves the four work tables as they were.

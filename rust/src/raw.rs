@@ -38,7 +38,7 @@ pub struct Reply {
 pub struct CheckReply {
     /// The refusal's number, 0 where not refused.
     pub refusal: u32,
-    /// 1 where every entry of the claimed table is the defined one, else 0.
+    /// 1 where every entry of the claimed table is the defined one, else 0; 0 where refused.
     pub right: u32,
     /// The least position whose entry is wrong, 0 where none is and where refused.
     pub position: usize,
@@ -263,7 +263,7 @@ extern "C" {
         work_6_length: usize,
     ) -> Reply;
 
-    /// Checks a claimed next table. The work tables are left as by a finished build.
+    /// Checks a claimed next table. Where it is not refused, the work tables are left as by a finished build.
     ///
     /// # Safety
     ///

@@ -74,6 +74,14 @@ static int cabinet_agrees(void)
         && is_refused(marked_3, LYNDON_NOT_MARKED);
 }
 
+/* Whether four tables are those of banana. */
+static int are_banana(uint32_t tables[][N])
+{
+    return memcmp(tables[0], previous, sizeof previous) == 0 && memcmp(tables[1], next, sizeof next) == 0
+        && memcmp(tables[2], previous_match, sizeof previous_match) == 0
+        && memcmp(tables[3], next_match, sizeof next_match) == 0;
+}
+
 /* Whether banana with masked letters has the tables and the tree of banana, and the same longest words. */
 static int masked_agrees(void)
 {
@@ -90,34 +98,28 @@ static int masked_agrees(void)
         }
     }
     return built.refusal == 0 && built.equal == 3 && built.unequal == 3 && built.reach == 6
-        && memcmp(tables[0], previous, sizeof previous) == 0 && memcmp(tables[1], next, sizeof next) == 0
-        && memcmp(tables[2], previous_match, sizeof previous_match) == 0
-        && memcmp(tables[3], next_match, sizeof next_match) == 0
-        && memcmp(brackets, tree, TREE_LENGTH) == 0;
+        && are_banana(tables) && memcmp(brackets, tree, TREE_LENGTH) == 0;
 }
 
 static uint32_t starts[N - 1], ends[N - 1], periods[N - 1], work[6][N];
 
-/* The runs of banana in lists of so many entries, over work tables that hold 7. */
-static LyndonReply runs_in(size_t entries)
+static void fill_work(uint32_t value)
 {
     size_t k, i;
     for (k = 0; k < 6; k++) {
         for (i = 0; i < N; i++) {
-            work[k][i] = 7;
+            work[k][i] = value;
         }
     }
-    return lyndon_runs(letters, N, starts, entries, ends, entries, periods, entries, work[0], N, work[1], N, work[2], N,
-                       work[3], N, work[4], N, work[5], N);
 }
 
-/* Whether all work tables hold 0. */
-static int work_is_cleared(void)
+/* Whether all work tables hold a value. */
+static int work_holds(uint32_t value)
 {
     size_t k, i;
     for (k = 0; k < 6; k++) {
         for (i = 0; i < N; i++) {
-            if (work[k][i] != 0) {
+            if (work[k][i] != value) {
                 return 0;
             }
         }
@@ -125,36 +127,47 @@ static int work_is_cleared(void)
     return 1;
 }
 
+/* The runs of banana in lists of so many entries, over work tables that hold 7. */
+static LyndonReply runs_in(size_t entries)
+{
+    fill_work(7);
+    return lyndon_runs(letters, N, starts, entries, ends, entries, periods, entries, work[0], N, work[1], N, work[2], N,
+                       work[3], N, work[4], N, work[5], N);
+}
+
 /* Whether lists without entries are refused and lists of N - 1 entries hold the one run of banana, and 0 beyond it. */
 static int runs_agree(void)
 {
     LyndonReply none = runs_in(0);
-    int cleared = work_is_cleared();
+    int cleared = work_holds(0);
     LyndonReply one = runs_in(N - 1);
     return none.refusal == LYNDON_TOO_MANY_RUNS && none.value == 0 && cleared
-        && one.refusal == 0 && one.value == 1 && work_is_cleared()
+        && one.refusal == 0 && one.value == 1 && work_holds(0)
         && starts[0] == 1 && ends[0] == 6 && periods[0] == 2
         && starts[1] == 0 && ends[1] == 0 && periods[1] == 0;
 }
 
-/* Whether a check says of a claimed table that it is right, or that this position is the least that is wrong; and leaves what a build
- * does. */
-static int is_checked(const uint32_t *claimed, uint32_t right, size_t position)
+/* The check of a claimed table of so many entries, over work tables that hold 7. */
+static LyndonCheckReply check_of(const uint32_t *claimed, size_t entries)
 {
-    LyndonCheckReply reply = lyndon_check(letters, N, claimed, N, work[0], N, work[1], N, work[2], N, work[3], N);
-    return reply.refusal == 0 && reply.right == right && reply.position == position
-        && memcmp(work[0], previous, sizeof previous) == 0 && memcmp(work[1], next, sizeof next) == 0
-        && memcmp(work[2], previous_match, sizeof previous_match) == 0
-        && memcmp(work[3], next_match, sizeof next_match) == 0;
+    fill_work(7);
+    return lyndon_check(letters, N, claimed, entries, work[0], N, work[1], N, work[2], N, work[3], N);
 }
 
-/* Whether banana's next table is right, two others are wrong at 2 and at 5, and a shorter one is refused. */
+/* Whether a check finds a claimed table right, or wrong from this position on, and leaves the tables of banana. */
+static int is_found(const uint32_t *claimed, uint32_t right, size_t position)
+{
+    LyndonCheckReply reply = check_of(claimed, N);
+    return reply.refusal == 0 && reply.right == right && reply.position == position && are_banana(work);
+}
+
+/* Whether banana's next table is right, two others are wrong at 2 and at 5, and a shorter one is refused and leaves the work tables. */
 static int check_agrees(void)
 {
     static const uint32_t twice_wrong[N] = {1, 3, 4, 5, 5, 0}, beyond_none[N] = {1, 3, 3, 5, 5, 7};
-    LyndonCheckReply shorter = lyndon_check(letters, N, next, N - 1, work[0], N, work[1], N, work[2], N, work[3], N);
-    return is_checked(next, 1, 0) && is_checked(twice_wrong, 0, 2) && is_checked(beyond_none, 0, 5)
-        && shorter.refusal == LYNDON_WRONG_TABLE_LENGTH && shorter.right == 0 && shorter.position == 0;
+    LyndonCheckReply shorter = check_of(next, N - 1);
+    return shorter.refusal == LYNDON_WRONG_TABLE_LENGTH && shorter.right == 0 && shorter.position == 0 && work_holds(7)
+        && is_found(next, 1, 0) && is_found(twice_wrong, 0, 2) && is_found(beyond_none, 0, 5);
 }
 
 int main(void)

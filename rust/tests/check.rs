@@ -1,9 +1,9 @@
-//! The check of a claimed next table: every short string with every single wrong entry, tables wrong in
-//! several places, wrong lengths, and long strings.
+//! The check of a claimed next table: every short string with one entry wrong at every position, tables
+//! wrong in several places, wrong lengths, and long strings.
 
 mod common;
 
-use common::{assert_check, Fill, Guarded, LentForCheck, FILLS};
+use common::{assert_check, assert_list, Fill, Guarded, LentForCheck, FILLS};
 use lyndon::{check, raw, Checked, Refusal, Structure, MAX_LETTERS};
 use reference::definitions::{least_wrong, tables};
 use reference::samples::{self, Random};
@@ -42,18 +42,18 @@ fn check_every_string(alphabet: &[u8], longest: usize) {
 // The letters 127 and 128 are in the other order when a byte is taken as signed.
 
 #[test]
-fn every_string_over_two_letters_with_every_wrong_entry() {
+fn every_string_over_two_letters_with_one_entry_wrong() {
     check_every_string(&[127, 128], 8);
 }
 
 #[test]
-fn every_string_over_three_letters_with_every_wrong_entry() {
+fn every_string_over_three_letters_with_one_entry_wrong() {
     check_every_string(&[0, 127, 255], 6);
 }
 
 /// Byte 95 is above the capitals and below the small letters.
 #[test]
-fn every_string_of_small_letters_capitals_and_byte_95_with_every_wrong_entry() {
+fn every_string_of_small_letters_capitals_and_byte_95_with_one_entry_wrong() {
     check_every_string(b"AaBb_", 5);
 }
 
@@ -73,7 +73,8 @@ fn every_table_of_small_entries() {
     }
 }
 
-/// The next table of another string, and random entries.
+/// The next table of another string, random entries from some position on, and tables that are none of
+/// next.
 #[test]
 fn tables_wrong_in_many_places() {
     let mut random = Random::new(91);
@@ -83,20 +84,54 @@ fn tables_wrong_in_many_places() {
         let tables = tables(&letters, n);
         let mut other = letters.clone();
         other[random.below(n)] = random.below(size) as u8;
-        let mut claimed = fast::structure(&other, n).tables.next;
-        for fill in FILLS {
-            let expected = least_wrong(&letters, &claimed);
-            assert_check(&letters, &claimed, expected, &tables, fill);
-            let first = random.below(n);
-            for entry in &mut claimed[first..] {
-                *entry = random.below(n + 2) as u32;
-            }
+        let of_another = fast::structure(&other, n).tables.next;
+        let mut partly_random = tables.next.clone();
+        for entry in &mut partly_random[random.below(n)..] {
+            *entry = random.below(n + 2) as u32;
         }
-        for claimed in [&tables.previous, &tables.next_match] {
+        for (k, claimed) in [
+            &of_another,
+            &partly_random,
+            &tables.previous,
+            &tables.next_match,
+        ]
+        .into_iter()
+        .enumerate()
+        {
             let expected = least_wrong(&letters, claimed);
-            assert_check(&letters, claimed, expected, &tables, FILLS[n % 2]);
+            assert_check(&letters, claimed, expected, &tables, FILLS[k % 2]);
         }
     }
+}
+
+/// Plain Rust's check, which the benchmark compares with, against the definitions.
+#[test]
+fn plain_rust_finds_the_same() {
+    for n in 0..=6 {
+        for letters in samples::strings_over(b"ab", n) {
+            let tables = tables(&letters, n);
+            let mut claimed = tables.next.clone();
+            for i in 0..n {
+                let right = claimed[i];
+                for entry in tried(n, right).chain([right]) {
+                    claimed[i] = entry;
+                    let [mut a, mut b, mut c, mut d] = [(); 4].map(|()| vec![7; n]);
+                    let found = fast::check(&letters, &claimed, &mut a, &mut b, &mut c, &mut d);
+                    assert_eq!(found, Ok(least_wrong(&letters, &claimed)));
+                    let left = Tables {
+                        previous: a,
+                        next: b,
+                        previous_match: c,
+                        next_match: d,
+                    };
+                    assert_eq!(left, tables);
+                }
+            }
+        }
+    }
+    let [mut a, mut b, mut c, mut d] = [[7; 2]; 4];
+    let refused = fast::check(b"ab", &[1], &mut a, &mut b, &mut c, &mut d);
+    assert_eq!((refused, [a, b, c, d]), (Err(2), [[7; 2]; 4]));
 }
 
 /// Asserts that a check over memory of these lengths is refused, and leaves all of it.
@@ -117,6 +152,9 @@ fn assert_refused(letters: &[u8], claimed: usize, work: [usize; 4], number: u32,
         claimed.contents().len()
     );
     claimed.assert_untouched();
+    lent.0.iter().for_each(Guarded::assert_untouched);
+    let answer = lent.check(letters, claimed.lent());
+    assert_eq!(answer.map_err(Refusal::number), Err(number));
     lent.0.iter().for_each(Guarded::assert_untouched);
 }
 
@@ -159,16 +197,20 @@ fn too_many_letters_in_every_combination_with_wrong_lengths() {
     assert_eq!(check(&letters, &[]), Err(Refusal::TooLong));
 }
 
-/// The claimed table is lent between guards, and is the same after the check.
+/// The claimed table is lent between guards, and is the same after the check, right or wrong.
 #[test]
 fn the_claimed_table_is_left_as_it_is() {
     for letters in [&b""[..], b"a", b"banana"] {
         let n = letters.len();
+        let tables = tables(letters, n);
         for fill in FILLS {
             let mut claimed: Guarded<u32> = Guarded::new(n, fill);
             let expected = least_wrong(letters, claimed.contents());
-            assert_check(letters, claimed.lent(), expected, &tables(letters, n), fill);
+            assert_check(letters, claimed.lent(), expected, &tables, fill);
             claimed.assert_untouched();
+            claimed.lent().copy_from_slice(&tables.next);
+            assert_check(letters, claimed.lent(), None, &tables, fill);
+            assert_list("the claimed table", claimed.contents(), &tables.next);
         }
     }
 }
@@ -215,7 +257,7 @@ fn strings_of_1_000_000_letters() {
 }
 
 #[test]
-fn the_wrapper_answers_as_the_exported_function() {
+fn the_wrapper_checks_in_memory_of_its_own() {
     let mut random = Random::new(94);
     for _ in 0..300 {
         let (n, size) = (random.below(200), 1 + random.below(4));

@@ -194,7 +194,7 @@ fn work_tables_may_hold_anything() {
 }
 
 /// Asks the wrapper for the runs in lists and work memory of these lengths.
-fn check_into(letters: &[u8], entries: [usize; 3], work_length: usize) {
+fn check_runs_into(letters: &[u8], entries: [usize; 3], work_length: usize) {
     let n = letters.len();
     let used = runs_work_length(n);
     let expected = by_definition(letters);
@@ -238,14 +238,14 @@ fn the_wrapper_uses_as_much_work_memory_as_it_says() {
         let n = letters.len();
         for work_length in [used.saturating_sub(1), used, used + 1, used + 6, used + 100] {
             for entries in 0..=n {
-                check_into(letters, [entries; 3], work_length);
-                check_into(letters, [entries + 1, entries, entries], work_length);
-                check_into(letters, [entries, entries + 1, entries], work_length);
-                check_into(letters, [entries, entries, entries + 1], work_length);
+                check_runs_into(letters, [entries; 3], work_length);
+                check_runs_into(letters, [entries + 1, entries, entries], work_length);
+                check_runs_into(letters, [entries, entries + 1, entries], work_length);
+                check_runs_into(letters, [entries, entries, entries + 1], work_length);
             }
         }
-        check_into(letters, [n; 3], 0);
-        check_into(letters, [n; 3], n);
+        check_runs_into(letters, [n; 3], 0);
+        check_runs_into(letters, [n; 3], n);
     }
     assert_eq!(runs_work_length(usize::MAX), usize::MAX);
 }

@@ -1,18 +1,17 @@
 -- The search for the least place where two tables differ, as the code goes it: what is left of it is the whole.
 use mathlib.Core.Path.{_≡_, refl, sym, ap, _∙_}
 use mathlib.Core.Logic.{_≢_}
-use mathlib.Core.Bool.{Bool, not}
+use mathlib.Core.Bool.{Bool}
 use mathlib.Core.List.{List}
 use Prim.Native.Nat.{ℕ, zero, suc, _+_, _-_, _≤_, _<_}
 use native.Mathlib.Omega.{arith}
 use native.Mathlib.Numerals.{add-one}
-use lib.Dec.{eqb}
 use lib.ListN.{length, getD}
 use borrow.Author.Tests.{eq-eqb, ne-eqb}
 use Rattle.suffix.specs.Search.{leastFrom}
 use Rattle.suffix.proofs.Cases.{Test, holds, fails, test}
 use Rattle.checker.specs.Checked.{right, wrongAt, foundAt}
-use Rattle.checker.specs.Comparing.{leastDifference}
+use Rattle.checker.specs.Comparing.{differs, leastDifference}
 
 pub found-none : {n i : ℕ} → i ≡ n → right ≡ foundAt n i
 unfolding foundAt
@@ -23,16 +22,13 @@ unfolding foundAt
 found-wrong e = rw (ne-eqb _ _ e, foundAt)
 
 module _ (claimed table : List ℕ) where
-  abbrev differs : ℕ → Bool
-  differs i = not (eqb (getD claimed i 0) (getD table i 0))
-
   abbrev n : ℕ
   n = length table
 
   -- no difference stands below i
   pub record Left (i : ℕ) : Type 0 where
     pub most : i ≤ n
-    pub is : leastDifference claimed table ≡ leastFrom i (n - i) differs n
+    pub is : leastDifference claimed table ≡ leastFrom i (n - i) (differs claimed table) n
 
   pub starts : Left 0
   unfolding leastDifference

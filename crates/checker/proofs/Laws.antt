@@ -23,7 +23,7 @@ use Rattle.refusal.proofs.Tables.{not-off}
 use Rattle.build.specs.Built.{Lent, lentAfter, tablesRefusalOf, TablesBuilt}
 use Rattle.build.proofs.Answers.{left-built}
 use Rattle.checker.specs.Checked.{isWrong, leastWrong, Finding, right, wrongAt, refused, foundAt, checkRefusal, finding, workAtExit, CheckedExactly}
-use Rattle.checker.specs.Comparing.{leastDifference, comparedWith}
+use Rattle.checker.specs.Comparing.{differs, leastDifference, comparedWith}
 use Rattle.checker.specs.Claims.{Finds, FindsTheLeastWrong, BuiltThenChecked}
 use Rattle.checker.proofs.Comparing.{found-none, found-wrong, least-same}
 
@@ -95,8 +95,8 @@ module _ (y claimed : List ℕ) {before after : Tables} {verdict : Verdict} (B :
     difference-is : leastDifference claimed (after .next) ≡ leastWrong y claimed
     unfolding leastDifference leastWrong isWrong
     difference-is =
-        ap (λ k. leastFrom 0 k (λ i. not (eqb (getD claimed i 0) (getD (after .next) i 0))) k) next-length
-        ∙ least-same (λ i. not (eqb (getD claimed i 0) (getD (after .next) i 0))) (isWrong y claimed) (length y) 0 (length y)
+        ap (λ k. leastFrom 0 k (differs claimed (after .next)) k) next-length
+        ∙ least-same (differs claimed (after .next)) (isWrong y claimed) (length y) 0 (length y)
         (λ k a b. ap (λ v. not (eqb (getD claimed k 0) v)) (ap (λ t. getD t k 0) next-is ∙ tabulate-entry (next y) (length y) k (omega arith)))
 
   -- what is found beside the table that is built

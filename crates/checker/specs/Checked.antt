@@ -44,6 +44,7 @@ checkRefusal y claimed work =
     let workOff = aTableLengthOff n (length (work .previous)) (length (work .next)) (length (work .previousMatch)) (length (work .nextMatch)) in
     firstOf (numberIf (tooLong n) TooLong ∷ numberIf (tableLengthOff n (length claimed) || workOff) TableLength ∷ [])
 
+-- the answer
 unfoldable pub finding : (y claimed : List ℕ) → Tables → Finding
 finding y claimed work = let number = checkRefusal y claimed work in unlessRefused number (foundAt (length y) (leastWrong y claimed)) (refused number)
 

@@ -18,10 +18,10 @@ use Rattle.replies.specs.declared.CabinetReply.{CabinetReply}
 
 -- A reply that carries the figures of an operation, and these are as the operation's own record has them: what it answers, and what it leaves in
 -- the memory that is lent to it.
-pub record Replied {Figures Reply : Type 0} (reply : Figures → Reply) (Exactly : Figures → Type 0) (given : Reply) : Type 0 where
+pub record Replied {Figures Structure : Type 0} (replyOf : Figures → Structure) (Exactly : Figures → Type 0) (given : Structure) : Type 0 where
   pub figures : Figures
   pub exactly : Exactly figures
-  pub replies : given ≡ reply figures
+  pub replies : given ≡ replyOf figures
 
 -- "A refusal carries its number and no other figure": the others are 0
 abbrev pub buildReply : build.Figures → BuildReply

@@ -7,7 +7,7 @@ use lib.ListN.{length, getD}
 use Rattle.suffix.specs.Rows.{Tables, tablesAfter, reach}
 use Rattle.reuse.specs.Steps.{Progress, asked, ended, advances, rowStart, row, afterRows, equalComparisons, unequalComparisons, comparisons}
 
--- what R rows may cost
+-- how far R rows reach, and what they may cost
 pub record Bounded (y : List ℕ) (R : ℕ) : Type 0 where
   -- demand 3: "Reach never passes n"
   pub within : reach y R ≤ length y

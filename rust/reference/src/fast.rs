@@ -194,8 +194,8 @@ pub fn build(
     })
 }
 
-/// The least position whose entry in a claimed next table is wrong, none where the table is right; or the
-/// number of a refusal. The four tables are those of all letters then.
+/// The least position whose entry in a claimed next table is wrong, none where the table is right, with the
+/// four tables of all letters; or the number of a refusal, with the tables as they were.
 pub fn check(
     letters: &[u8],
     claimed: &[u32],

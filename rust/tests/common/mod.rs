@@ -5,7 +5,7 @@
 
 use std::fmt::Debug;
 
-use lyndon::{raw, Built, Refusal};
+use lyndon::{raw, Built, Checked, Refusal};
 use reference::runs::{self, Run};
 use reference::{fast_brackets, Structure, Tables};
 
@@ -181,6 +181,12 @@ impl LentForCheck {
         raw::check(letters, claimed, previous, next, previous_match, next_match)
     }
 
+    /// Checks through the safe wrapper.
+    pub fn check(&mut self, letters: &[u8], claimed: &[u32]) -> Result<Checked, Refusal> {
+        let [previous, next, previous_match, next_match] = self.0.each_mut().map(Guarded::lent);
+        lyndon::check_into(letters, claimed, previous, next, previous_match, next_match)
+    }
+
     /// Asserts that the work tables hold these tables.
     pub fn assert_tables(&self, tables: &Tables) {
         let names = ["previous", "next", "previous-match", "next-match"];
@@ -197,7 +203,7 @@ impl LentForCheck {
 }
 
 /// Asserts that a check finds what is expected, the least wrong position or none, and that the work tables
-/// hold the tables of the whole string then.
+/// hold the tables of the whole string then: by the exported function, and by the wrapper's.
 pub fn assert_check(
     letters: &[u8],
     claimed: &[u32],
@@ -212,6 +218,10 @@ pub fn assert_check(
         position: expected.unwrap_or(0),
     };
     assert_eq!(lent.check_raw(letters, claimed), reply);
+    lent.assert_tables(tables);
+    let mut lent = LentForCheck::new([letters.len(); 4], fill);
+    let found = expected.map_or(Checked::Right, Checked::WrongAt);
+    assert_eq!(lent.check(letters, claimed), Ok(found));
     lent.assert_tables(tables);
 }
 

@@ -44,17 +44,21 @@ same-refusal j =
 abbrev joined : tie.After-build-tables → tie.Joined1
 joined b = b .before .before .before .before .before
 
+-- the work tables at exit
+abbrev left : tie.After-build-tables → Tables
+left b = let u = b .build-tables .last .1 .1 in tablesOf (u .0) (u .1 .0) (u .1 .1 .0) (u .1 .1 .1 .0)
+
 compared-requires : tie.Need-compared-requires
 compared-requires c κs =
     let b = c .before .before .before .before .before .before .before .before .before in
     let s = start (joined b) in
-    laws.lengths (ranks (s .args .letters .now)) (s .args .claimed .now) (b .build-tables .ensures) (same-refusal (joined b))
+    laws.lengths (ranks (s .args .letters .now)) (s .args .claimed .now) {before = work s} {after = left b} (b .build-tables .ensures) (same-refusal (joined b))
 
 returns-2 : tie.Need-returns-2
 returns-2 c =
     let b = c .before .before .before .before .before .before .before .before .before .before in
     let s = start (joined b) in
-    laws.checked (ranks (s .args .letters .now)) (s .args .claimed .now) (b .build-tables .ensures) (same-refusal (joined b)) (c .compared .ensures)
+    laws.checked (ranks (s .args .letters .now)) (s .args .claimed .now) {before = work s} {after = left b} (b .build-tables .ensures) (same-refusal (joined b)) (c .compared .ensures)
 
 pub check-spec : {M : Type 1} → statement M
 check-spec =

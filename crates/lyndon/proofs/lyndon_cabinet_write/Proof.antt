@@ -1,10 +1,9 @@
 -- `lyndon::lyndon_cabinet_write` meets its contract.
-use mathlib.Core.Path.{_∙_}
 use Rattle.lyndon.proofs.lyndon_cabinet_write.Statement.{statement}
 use Rattle.lyndon.proofs.lyndon_cabinet_write.Tie as tie
 
 returns : tie.Need-returns
-returns c = let e = c .before .before .before .write .ensures in record { answers = c .verdict-number .ensures ∙ e .answers; leaves = e .leaves }
+returns c = rw (c .verdict-number .ensures) (c .before .before .before .write .ensures)
 
 pub lyndon-cabinet-write-spec : {M : Type 1} → statement M
 lyndon-cabinet-write-spec = tie.close (tie.spec (λ c κs. tt) (λ c κs. tt) (λ c. c .before .before .file .given) returns)
