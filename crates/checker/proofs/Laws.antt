@@ -3,11 +3,11 @@ use mathlib.Core.Path.{_≡_, refl, sym, ap, ap₂, _∙_}
 use mathlib.Core.Logic.{_≢_}
 use mathlib.Core.Bool.{Bool, true, false, not, _||_, true≢false}
 use mathlib.Core.List.{List, [], _∷_}
-use Prim.Native.Nat.{ℕ, _≤_, _<_}
+use Prim.Native.Nat.{ℕ, _-_, _≤_, _<_}
 use native.Mathlib.Omega.{arith}
 use lib.Dec.{eqb}
 use lib.ListN.{length, getD}
-use borrow.Author.Tests.{lt-ltb, le-ltb, eq-eqb, eqb-true, not-false}
+use borrow.Author.Tests.{lt-ltb, le-ltb, ltb-false, eq-eqb, eqb-true, not-false}
 use Rattle.suffix.specs.Search.{tabulate, leastFrom}
 use Rattle.suffix.specs.Nearest.{next}
 use Rattle.suffix.specs.Rows.{Tables, tablesAfter}
@@ -23,7 +23,7 @@ use Rattle.refusal.proofs.Tables.{not-off}
 use Rattle.build.specs.Built.{Lent, lentAfter, tablesRefusalOf, TablesBuilt}
 use Rattle.build.proofs.Answers.{left-built}
 use Rattle.checker.specs.Checked.{isWrong, leastWrong, Finding, right, wrongAt, refused, foundAt, checkRefusal, finding, workAtExit, CheckedExactly}
-use Rattle.checker.specs.Comparing.{differs, leastDifference, comparedWith}
+use Rattle.checker.specs.Comparing.{differs, firstDifference, comparedWith}
 use Rattle.checker.specs.Claims.{Finds, FindsTheLeastWrong, BuiltThenChecked}
 use Rattle.checker.proofs.Comparing.{found-none, found-wrong, least-same}
 
@@ -66,6 +66,10 @@ module _ (y claimed : List ℕ) (work : Tables) where
       let a = first-none _ _ (first-none _ _ e .1) in
       not-off _ _ (neither _ _ (nothing-found _ TableLength (a .0)) .0)
 
+  few : checkRefusal y claimed work ≡ 0 → length y ≤ 1000000
+  unfolding checkRefusal
+  few e = ltb-false _ _ (nothing-found _ TooLong (first-none _ _ e .0))
+
   pub refused-claim : {k : ℕ} → 0 < k → k ≡ checkRefusal y claimed work → CheckedExactly y claimed work work (refused k)
   unfolding finding workAtExit
   refused-claim h e =
@@ -89,13 +93,14 @@ module _ (y claimed : List ℕ) {before after : Tables} {verdict : Verdict} (B :
     next-length : length (after .next) ≡ length y
     next-length = ap length next-is ∙ tabulate-length (next y) (length y)
 
-    pub lengths : length claimed ≡ length (after .next)
-    lengths = claimed-length y claimed before taken ∙ sym next-length
+    pub lengths : (length (after .next) ≤ 1000000) × (length claimed ≡ length (after .next))
+    lengths = (omega (arith, next-length, few y claimed before taken), claimed-length y claimed before taken ∙ sym next-length)
 
-    difference-is : leastDifference claimed (after .next) ≡ leastWrong y claimed
-    unfolding leastDifference leastWrong isWrong
+    difference-is : firstDifference claimed (after .next) 0 (length (after .next)) ≡ leastWrong y claimed
+    unfolding firstDifference leastWrong isWrong
     difference-is =
-        ap (λ k. leastFrom 0 k (differs claimed (after .next)) k) next-length
+        let z : length (after .next) - 0 ≡ length y = omega (arith, next-length) in
+        ap₂ (λ t k. leastFrom 0 t (differs claimed (after .next)) k) z next-length
         ∙ least-same (differs claimed (after .next)) (isWrong y claimed) (length y) 0 (length y)
         (λ k a b. ap (λ v. not (eqb (getD claimed k 0) v)) (ap (λ t. getD t k 0) next-is ∙ tabulate-entry (next y) (length y) k (omega arith)))
 
@@ -129,7 +134,7 @@ module _ (y claimed : List ℕ) (work : Tables) (taken : checkRefusal y claimed 
 
   finds-wrong : leastWrong y claimed ≢ length y → finding y claimed work ≡ wrongAt (leastWrong y claimed)
   unfolding finding
-  finds-wrong z = unless-taken _ _ _ taken ∙ sym (found-wrong z)
+  finds-wrong z = unless-taken _ _ _ taken ∙ sym (found-wrong refl z)
 
   correct : (i : ℕ) → isWrong y claimed i ≡ false → getD claimed i 0 ≡ next y i
   unfolding isWrong

@@ -1,11 +1,12 @@
 // The check of a next table that others sent.
 ghost use mathlib.Core.Path.{_≡_};
+ghost use Prim.Native.Nat.{_≤_};
 ghost use lib.ListN.{length};
 ghost use Rattle.suffix.specs.Ranks.{ranks};
 ghost use Rattle.refusal.specs.Numbers.{verdictNumber};
 ghost use Rattle.build.specs.Built.{tablesOf};
 ghost use Rattle.checker.specs.Checked.{findingOf, CheckedExactly};
-ghost use Rattle.checker.specs.Comparing.{comparedWith};
+ghost use Rattle.checker.specs.Comparing.{firstDifference, comparedWith};
 use refusal::Refusal;
 use refusal::Verdict;
 
@@ -15,23 +16,50 @@ pub enum Checked {
     Refused(Refusal),
 }
 
+// The first place from one on where two tables differ before another, or that other.
+fn first_difference(claimed: &[u32], table: &[u32], from: usize, stop: usize) -> usize
+    requires { ⌜ (from ≤ stop) × (stop ≤ length (now table)) × (length (now claimed) ≡ length (now table)) ⌝ }
+    ensures { λ r. ⌜ r ≡ firstDifference (now (claimed .entry)) (now (table .entry)) from stop ⌝ }
+{
+    let mut i = from;
+    while i != stop {
+        if claimed[i] != table[i] {
+            return i;
+        }
+        i += 1;
+    }
+    i
+}
+
+// The same of whole tables, four entries at a time while there are four: the compiler writes the four one behind the other.
+fn least_difference(claimed: &[u32], table: &[u32]) -> usize
+    requires { ⌜ (length (now table) ≤ 1000000) × (length (now claimed) ≡ length (now table)) ⌝ }
+    ensures { λ r. ⌜ r ≡ firstDifference (now (claimed .entry)) (now (table .entry)) 0 (length (now (table .entry))) ⌝ }
+{
+    let mut i = 0;
+    while i + 4 <= table.len() {
+        let stop = i + 4;
+        i = first_difference(claimed, table, i, stop);
+        if i != stop {
+            return i;
+        }
+    }
+    first_difference(claimed, table, i, table.len())
+}
+
 // What is found in a claimed table beside the one that is built, unless the build is refused.
 fn compared(built: Verdict, claimed: &[u32], table: &[u32]) -> Checked
-    requires { ⌜ (verdictNumber built ≡ 0 → length (now claimed) ≡ length (now table)) ⌝ }
+    requires { ⌜ (verdictNumber built ≡ 0 → (length (now table) ≤ 1000000) × (length (now claimed) ≡ length (now table))) ⌝ }
     ensures { λ r. ⌜ findingOf r ≡ comparedWith (verdictNumber built) (now (claimed .entry)) (now (table .entry)) ⌝ }
 {
     if let Verdict::Refused(refusal) = built {
         return Checked::Refused(refusal);
     }
-    let n = table.len();
-    let mut i = 0;
-    while i < n {
-        if claimed[i] != table[i] {
-            return Checked::WrongAt(i);
-        }
-        i += 1;
+    let i = least_difference(claimed, table);
+    if i == table.len() {
+        return Checked::Right;
     }
-    Checked::Right
+    Checked::WrongAt(i)
 }
 
 // Whether a claimed table is the next table of the letters, or else the least position whose entry is wrong. The work tables are left as a
