@@ -101,10 +101,10 @@ module _ (y : List ℕ) (R : ℕ) (before : Lent) where
           go (other z) = sym (before-n s letters z refl refl refl refl) ∙ rw (taken-is, ne-eqb R n (omega arith), answer, done, equals, unequals, reached)
 
       pub built : {letters : ℕ} → letters ≡ n → {figures : Figures} → figures ≡ figuresAt letters s → BuiltExactly y R before after figures
-      unfolding lentAtExit lentAfter
+      unfolding lentAfter
       built e f =
           record {
             answers = f ∙ answered _ e;
-            leaves = rw (eq-eqb (refusalOf y R before) 0 taken, lentAtExit, ← q, ← tables);
+            leaves = rw (left-built taken, ← q, ← tables);
             bounded = λ z. E .bounded;
           }

@@ -1,5 +1,5 @@
 -- The search for the first place where two tables differ, as the code goes it: what is left of it is the whole.
-use mathlib.Core.Path.{_≡_, refl, sym, ap, subst, _∙_}
+use mathlib.Core.Path.{_≡_, refl, sym, ap, _∙_}
 use mathlib.Core.Logic.{_≢_}
 use mathlib.Core.Bool.{Bool}
 use mathlib.Core.List.{List}
@@ -21,25 +21,20 @@ pub found-wrong : {n i k : ℕ} → k ≡ i → i ≢ n → wrongAt k ≡ foundA
 unfolding foundAt
 found-wrong q e = rw (ne-eqb _ _ e, foundAt) (ap wrongAt q)
 
--- the least of t + u numbers from i on is among the first t of them, or it is the least of the others
-least-parts : (g : ℕ → Bool) (none i t u : ℕ) → let k = leastFrom i t g (i + t) in
-    (k ≢ i + t → leastFrom i (t + u) g none ≡ k) × (k ≡ i + t → leastFrom i (t + u) g none ≡ leastFrom (i + t) u g none)
+-- the least of the b numbers from i on is among the first t of them, those before a, or it is the least of the u others
+abbrev Parts : (g : ℕ → Bool) (none i t u a b : ℕ) → Type 0
+Parts g none i t u a b = let k = leastFrom i t g a in (k ≢ a → leastFrom i b g none ≡ k) × (k ≡ a → leastFrom i b g none ≡ leastFrom a u g none)
+
+least-parts : (g : ℕ → Bool) (none i t u a b : ℕ) → i + t ≡ a → t + u ≡ b → Parts g none i t u a b
 unfolding leastFrom
-least-parts g none i zero u = (λ q. absurd (q (omega arith)), λ q. let z : i + 0 ≡ i = omega arith in let w : 0 + u ≡ u = omega arith in rw (z, w))
-least-parts g none i (suc t) u = let w : suc t + u ≡ suc (t + u) = omega arith in rw w (go (test (g i)) (least-parts g none (suc i) t u))
+least-parts g none i zero u a b p q = let z : i ≡ a = omega arith in let w : b ≡ u = omega arith in (λ e. absurd (e refl), λ e. rw (z, w))
+least-parts g none i (suc t) u a b p q =
+    let w : b ≡ suc (t + u) = omega arith in
+    rw w (go (test (g i)) (least-parts g none (suc i) t u a (t + u) (omega arith) refl))
   where
-    z : suc i + t ≡ i + suc t
-    z = omega arith
-
-    P : ℕ → Type 0
-    P k = (k ≢ i + suc t → leastFrom i (suc (t + u)) g none ≡ k) × (k ≡ i + suc t → leastFrom i (suc (t + u)) g none ≡ leastFrom (i + suc t) u g none)
-
-    Q : ℕ → Type 0
-    Q e = let k = leastFrom (suc i) t g e in (k ≢ e → leastFrom (suc i) (t + u) g none ≡ k) × (k ≡ e → leastFrom (suc i) (t + u) g none ≡ leastFrom e u g none)
-
-    go : Test (g i) → Q (suc i + t) → P (leastFrom i (suc t) g (i + suc t))
-    go (holds e) ih = rw (e, leastFrom) (λ q. refl, λ q. absurd (omega arith))
-    go (fails e) ih = rw (e, leastFrom) (rw z at ih)
+    go : Test (g i) → Parts g none (suc i) t u a (t + u) → Parts g none i (suc t) u a (suc (t + u))
+    go (holds e) ih = rw (e, leastFrom) (λ z. refl, λ z. absurd (omega arith))
+    go (fails e) ih = rw (e, leastFrom) ih
 
 module _ (claimed table : List ℕ) where
   -- what is to be found from one place on and before another, is what is left to be found from i on
@@ -67,22 +62,12 @@ module _ (claimed table : List ℕ) where
 
     -- what is found before a place between
     module _ {m k : ℕ} (h : i ≤ m) (w : m ≤ stop) (e : k ≡ firstDifference claimed table i m) where
-      parts : let d = differs claimed table in (k ≢ m → leastFrom i (stop - i) d stop ≡ k) × (k ≡ m → leastFrom i (stop - i) d stop ≡ leastFrom m (stop - m) d stop)
-      unfolding firstDifference
-      parts = rw e (go (m - i) (stop - m) (omega arith) (omega arith) (least-parts (differs claimed table) stop i (m - i) (stop - m)))
-        where
-          Parts : (t u a b : ℕ) → Type 0
-          Parts t u a b =
-              let d = differs claimed table in
-              let j = leastFrom i t d a in
-              (j ≢ a → leastFrom i b d stop ≡ j) × (j ≡ a → leastFrom i b d stop ≡ leastFrom a u d stop)
-
-          go : (t u : ℕ) → i + t ≡ m → t + u ≡ stop - i → Parts t u (i + t) (t + u) → Parts t u m (stop - i)
-          go t u p q r = subst (λ b. Parts t u m b) q (subst (λ a. Parts t u a (t + u)) p r)
+      parts : Parts (differs claimed table) stop i (m - i) (stop - m) m (stop - i)
+      parts = least-parts (differs claimed table) stop i (m - i) (stop - m) m (stop - i) (omega arith) (omega arith)
 
       pub part-found : k ≢ m → k ≡ firstDifference claimed table from stop
       unfolding firstDifference
-      part-found q = sym (L .is ∙ parts .0 q)
+      part-found q = sym (L .is ∙ parts .0 (λ z. q (e ∙ z)) ∙ sym e)
 
       -- the last part
       pub rest-found : m ≡ stop → k ≡ firstDifference claimed table from stop
@@ -90,7 +75,7 @@ module _ (claimed table : List ℕ) where
 
       pub part-passed : k ≡ m → Left from stop k
       unfolding firstDifference
-      part-passed q = record { most = omega arith; is = L .is ∙ parts .1 q ∙ ap (λ j. leastFrom j (stop - j) (differs claimed table) stop) (sym q) }
+      part-passed q = record { most = omega arith; is = L .is ∙ parts .1 (sym e ∙ q) ∙ ap (λ j. leastFrom j (stop - j) (differs claimed table) stop) (sym q) }
 
 -- two tests that agree find the same
 pub least-same : (g h : ℕ → Bool) (none i t : ℕ) → ((k : ℕ) → i ≤ k → k < i + t → g k ≡ h k) → leastFrom i t g none ≡ leastFrom i t h none

@@ -11,7 +11,7 @@ use Rattle.checker.specs.Checked.{Finding, refused, foundAt}
 abbrev pub differs : (claimed table : List ℕ) → ℕ → Bool
 differs claimed table i = not (eqb (getD claimed i 0) (getD table i 0))
 
--- the least place from one on and before another where a claimed table differs from another table, or the other place
+-- the least place from `from` on, and before `stop`, where a claimed table differs from another table, or `stop`
 unfoldable pub firstDifference : (claimed table : List ℕ) (from stop : ℕ) → ℕ
 firstDifference claimed table from stop = leastFrom from (stop - from) (differs claimed table) stop
 

@@ -16,7 +16,7 @@ pub enum Checked {
     Refused(Refusal),
 }
 
-// The first place from one on where two tables differ before another, or that other.
+// The first place from `from` on, and before `stop`, where two tables differ, or `stop`.
 fn first_difference(claimed: &[u32], table: &[u32], from: usize, stop: usize) -> usize
     requires { ⌜ (from ≤ stop) × (stop ≤ length (now table)) × (length (now claimed) ≡ length (now table)) ⌝ }
     ensures { λ r. ⌜ r ≡ firstDifference (now (claimed .entry)) (now (table .entry)) from stop ⌝ }
@@ -31,7 +31,7 @@ fn first_difference(claimed: &[u32], table: &[u32], from: usize, stop: usize) ->
     i
 }
 
-// The same of whole tables, four entries at a time while there are four: the compiler writes the four one behind the other.
+// The first of all places, or the tables' length: four entries at a time while there are four: the compiler writes the four one behind the other.
 fn least_difference(claimed: &[u32], table: &[u32]) -> usize
     requires { ⌜ (length (now table) ≤ 1000000) × (length (now claimed) ≡ length (now table)) ⌝ }
     ensures { λ r. ⌜ r ≡ firstDifference (now (claimed .entry)) (now (table .entry)) 0 (length (now (table .entry))) ⌝ }
