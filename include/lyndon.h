@@ -1,10 +1,13 @@
 /* The Lyndon structure of a string: nearest smaller suffixes, their matches, and the bracket tree; all its runs; and the check of a next
  * table that others made.
  *
- * A string has n letters of one byte each, n from 0 to 1,000,000. Letters compare by their unsigned value, but small letters, bytes
- * 97 to 122, as the capitals, 65 to 90: a masked letter counts as the same letter. So A and a are equal, here and everywhere below,
- * and the answers for a string are those for the same string in capitals. A proper prefix is smaller than the longer string.
- * Positions count from 0. 'None' is written n.
+ * A string has n letters, n from 0 to 1,000,000, of one byte each or, for the functions whose names end in 32, of 32 bits each:
+ *   - letters of one byte compare by their unsigned value, but small letters, bytes 97 to 122, as the capitals, 65 to 90: a masked
+ *     letter counts as the same letter. So A and a are equal, and the answers for a string are those for the same string in capitals;
+ *   - letters of 32 bits, such as allele lengths, are called symbols. They compare as unsigned numbers, with no masking: every value
+ *     may occur, and 65 and 97 are two symbols.
+ * All else that is said of letters holds for both. A proper prefix is smaller than the longer string. Positions count from 0. Positions,
+ * lengths and n count letters, so that for symbols they are not numbers of bytes. 'None' is written n.
  *
  *   match(i, j)        the number of leading letters that the suffixes at i and j share
  *   previous[i]        the greatest j < i whose suffix is smaller than the suffix at i
@@ -31,15 +34,16 @@
  *   for each entry the place of its tree from the file's first byte, and its letter count n
  *   the trees, in the order of their entries and without gaps
  *
- * The mark says by which order of letters the trees were built. LYN2: the order above. LYN1, the mark of files written before version
- * 3 of this header: the plain order of the bytes' values, in which A is smaller than a. The two orders give a string other trees only
- * where it has both a small letter and a byte from 65 to 96, which is a capital or one of [ \ ] ^ _ `. A tree by itself does not say
- * its order: one that was built before version 3 has the plain one. docs/FORMAT.md of the repository says more.
+ * The mark says by which order of letters the trees were built. LYN2: the order of bytes above. LYN1, the mark of files written
+ * before version 3 of this header: the plain order of the bytes' values, in which A is smaller than a. The two orders give a string
+ * other trees only where it has both a small letter and a byte from 65 to 96, which is a capital or one of [ \ ] ^ _ `. A tree by
+ * itself does not say its order: one that was built before version 3 has the plain one. Nor does it say whether it is of bytes or
+ * of symbols, and no mark does. docs/FORMAT.md of the repository says more.
  *
  * Refusals. No caller has to test anything first: each function takes every value of every number and every length, and answers
  * with a refusal where the rules ask for one, else with 0. Where several apply, the lowest number is returned, except by the
  * two functions of a cabinet, which test in the order given at each. A refusal writes nothing to the lent memory, but for 13, which
- * clears the work tables of lyndon_runs and leaves all else.
+ * clears the work tables of lyndon_runs or lyndon_runs32 and leaves all else.
  *
  * Memory. Each list passes as a pointer and then its length in entries. What nothing can test, and a caller must see to:
  *   - a pointer points to so many entries, aligned as their type asks;
@@ -67,12 +71,12 @@ extern "C" {
 /* The version of this header: it rises when a function is added, and with every change of a structure or a function, of what it
  * answers too. A program whose LYNDON_VERSION is not what lyndon_version() returns was compiled against another header than the
  * archive's, and is to be compiled again. */
-#define LYNDON_VERSION 4
+#define LYNDON_VERSION 5
 
 /* The version of the archive. */
 uint32_t lyndon_version(void);
 
-/* The most letters of a string, and the most entries of a cabinet. */
+/* The most letters of a string, bytes or symbols, and the most entries of a cabinet. */
 #define LYNDON_MAX_LETTERS 1000000
 #define LYNDON_MAX_ENTRIES 64
 
@@ -103,7 +107,7 @@ typedef enum LyndonRefusal {
     LYNDON_TOO_MANY_RUNS = 13         /* more runs than entries in each of the three lists */
 } LyndonRefusal;
 
-/* The answer of lyndon_build. Where it is refused, every member but `refusal` is 0. */
+/* The answer of lyndon_build and lyndon_build32. Where it is refused, every member but `refusal` is 0. */
 typedef struct LyndonBuildReply {
     uint32_t refusal;  /* 0, or 1 to 4 */
     uint32_t finished; /* 1 where rows = n, 0 where the build is halted before */
@@ -115,24 +119,24 @@ typedef struct LyndonBuildReply {
                           0 where rows = 0; never above n */
 } LyndonBuildReply;
 
-/* The answer to a question put to a tree, and that of lyndon_runs. */
+/* The answer to a question put to a tree, and that of lyndon_runs and lyndon_runs32. */
 typedef struct LyndonReply {
-    uint32_t refusal; /* 0, or of a question 1, 3, 5, 6, 7, 8, of lyndon_runs 1, 2, 12, 13 */
-    size_t value;     /* the answer, of lyndon_runs the number of runs; 0 where refused */
+    uint32_t refusal; /* 0, or of a question 1, 3, 5, 6, 7, 8, of a report of runs 1, 2, 12, 13 */
+    size_t value;     /* the answer, of a report the number of runs; 0 where refused */
 } LyndonReply;
 
-/* The answer of lyndon_check. */
+/* The answer of lyndon_check and lyndon_check32. */
 typedef struct LyndonCheckReply {
     uint32_t refusal; /* 0, or 1, 2 */
     uint32_t right;   /* 1 where every entry of the claimed table is the defined one, else 0; 0 where refused */
     size_t position;  /* the least position whose entry is wrong; 0 where none is, and where refused */
 } LyndonCheckReply;
 
-/* A part of the caller's string. */
+/* A part of the caller's string, of lyndon_word its bytes and of lyndon_word32 its symbols. */
 typedef struct LyndonPartReply {
     uint32_t refusal; /* 0, or 1, 5 */
     size_t start;     /* where the part starts; 0 where refused */
-    size_t length;    /* its length; 0 where refused */
+    size_t length;    /* its length in letters; 0 where refused */
 } LyndonPartReply;
 
 /* A tree in a cabinet file. */
@@ -161,6 +165,15 @@ LyndonBuildReply lyndon_build(const uint8_t *letters, size_t letters_length, siz
                               uint32_t *next_match, size_t next_match_length,
                               uint8_t *tree, size_t tree_length);
 
+/* As lyndon_build, of symbols of 32 bits: they compare as unsigned numbers, with no masking, and every value may occur. n is
+ * symbols_length, which counts symbols and not bytes. */
+LyndonBuildReply lyndon_build32(const uint32_t *symbols, size_t symbols_length, size_t rows,
+                                uint32_t *previous, size_t previous_length,
+                                uint32_t *next, size_t next_length,
+                                uint32_t *previous_match, size_t previous_match_length,
+                                uint32_t *next_match, size_t next_match_length,
+                                uint8_t *tree, size_t tree_length);
+
 /* Reads the tree of n positions back into the tables `previous` and `next`. Returns the refusal, or 0.
  *
  * Refusals: 1, 2 (for either table), 3, 6, 7, 8. The tree of a build halted before n rows is refused 7 when it is read with n; its
@@ -187,6 +200,10 @@ LyndonReply lyndon_place(size_t n, const uint8_t *tree, size_t tree_length, size
  * Refusals: 1, 5; the part is then the empty one at the string's start. Memory: nothing is written. */
 LyndonPartReply lyndon_word(const uint8_t *letters, size_t letters_length, size_t position);
 
+/* As lyndon_word, of symbols of 32 bits: they compare as unsigned numbers, with no masking, and every value may occur. n is
+ * symbols_length; it, the position, and the start and the length of the part count symbols and not bytes. */
+LyndonPartReply lyndon_word32(const uint32_t *symbols, size_t symbols_length, size_t position);
+
 /* Reports every run of `letters` once, by start and then by period: run k, from 0, has its start in starts[k], its end in ends[k]
  * and its period in periods[k]. The value is the number of runs. n is letters_length.
  *
@@ -208,6 +225,19 @@ LyndonReply lyndon_runs(const uint8_t *letters, size_t letters_length,
                         uint32_t *work_5, size_t work_5_length,
                         uint32_t *work_6, size_t work_6_length);
 
+/* As lyndon_runs, of symbols of 32 bits: they are equal where they are the same number, with no masking, and every value may occur. n
+ * is symbols_length; it, and the starts, ends and periods, count symbols and not bytes. */
+LyndonReply lyndon_runs32(const uint32_t *symbols, size_t symbols_length,
+                          uint32_t *starts, size_t starts_length,
+                          uint32_t *ends, size_t ends_length,
+                          uint32_t *periods, size_t periods_length,
+                          uint32_t *work_1, size_t work_1_length,
+                          uint32_t *work_2, size_t work_2_length,
+                          uint32_t *work_3, size_t work_3_length,
+                          uint32_t *work_4, size_t work_4_length,
+                          uint32_t *work_5, size_t work_5_length,
+                          uint32_t *work_6, size_t work_6_length);
+
 /* Says whether `claimed` is the next table of `letters`, whoever made it and by whatever method. Where it is not refused, `right` is 1
  * exactly if every entry is the defined one, with n for none; else `position` is the least position whose entry is wrong. An entry of
  * `claimed` may be any number of 32 bits. n is letters_length.
@@ -221,6 +251,15 @@ LyndonCheckReply lyndon_check(const uint8_t *letters, size_t letters_length,
                               uint32_t *next, size_t next_length,
                               uint32_t *previous_match, size_t previous_match_length,
                               uint32_t *next_match, size_t next_match_length);
+
+/* As lyndon_check, of symbols of 32 bits: they compare as unsigned numbers, with no masking, and every value may occur. n is
+ * symbols_length, which counts symbols and not bytes. The work tables hold what lyndon_build32 leaves in its four after n rows. */
+LyndonCheckReply lyndon_check32(const uint32_t *symbols, size_t symbols_length,
+                                const uint32_t *claimed, size_t claimed_length,
+                                uint32_t *previous, size_t previous_length,
+                                uint32_t *next, size_t next_length,
+                                uint32_t *previous_match, size_t previous_match_length,
+                                uint32_t *next_match, size_t next_match_length);
 
 /* Writes the cabinet file of the trees with the letter counts `counts`. `trees` holds them end to end. `file` has exactly the
  * file's length: 8 bytes, and for each count n 8 and ceil(n / 4) bytes. Its mark is LYN2. Returns the refusal, or 0.

@@ -1,6 +1,6 @@
 //! Times the library beside plain Rust: builds, checks and runs of 1,000,000 letters, how their cost grows,
-//! trees, and cabinets of them. `cargo bench -- runs` measures the runs alone, and so for `builds`, `checks`,
-//! `trees` and `cabinets`.
+//! trees, and cabinets of them; and builds, checks and runs of 1,000,000 symbols of 32 bits. `cargo bench --
+//! runs` measures the runs of letters alone, and so for `builds`, `checks`, `trees`, `cabinets` and `symbols`.
 //!
 //! Both sides take turns in one run, on the same input and the same buffers, which are not cleared
 //! between. Each answer is compared with the first one, outside the measured time. The time is that which
@@ -9,8 +9,10 @@
 use std::fmt::Debug;
 use std::hint::black_box;
 
+use lyndon::{raw, Built, Checked, Refusal};
+use reference::fast::{self, Scanned};
 use reference::samples::{self, Random};
-use reference::{cabinet, fast, fast_brackets, fast_runs, Figures};
+use reference::{cabinet, fast_brackets, fast_runs, Figures};
 
 const LETTERS: usize = 1_000_000;
 const BUILD_ROUNDS: usize = 31;
@@ -133,6 +135,44 @@ impl Comparison {
     }
 }
 
+type Build<L> = fn(
+    &[L],
+    usize,
+    &mut [u32],
+    &mut [u32],
+    &mut [u32],
+    &mut [u32],
+    &mut [u8],
+) -> Result<Built, Refusal>;
+type Check<L> =
+    fn(&[L], &[u32], &mut [u32], &mut [u32], &mut [u32], &mut [u32]) -> Result<Checked, Refusal>;
+type Report<L> = fn(&[L], [&mut [u32]; 3], [&mut [u32]; 6]) -> raw::Reply;
+
+/// A letter of one byte or a symbol of 32 bits, with the library's functions for it.
+trait Letter: Scanned {
+    const NAMES: &'static str;
+    const BUILD: Build<Self>;
+    const CHECK: Check<Self>;
+    const REPORT: Report<Self>;
+}
+
+impl Letter for u8 {
+    const NAMES: &'static str = "letters";
+    const BUILD: Build<u8> = lyndon::build;
+    const CHECK: Check<u8> = lyndon::check_into;
+    const REPORT: Report<u8> = raw::runs;
+}
+
+impl Letter for u32 {
+    const NAMES: &'static str = "symbols of 32 bits";
+    const BUILD: Build<u32> = lyndon::build32;
+    const CHECK: Check<u32> = lyndon::check32_into;
+    const REPORT: Report<u32> = raw::runs32;
+}
+
+/// Strings of the same kind of letters, each with its name.
+type Kinds<L> = Vec<(&'static str, Vec<L>)>;
+
 /// The memory that a build is lent: previous, next and their matches, and the tree.
 #[derive(Clone, PartialEq)]
 struct Buffers {
@@ -149,9 +189,9 @@ impl Buffers {
         }
     }
 
-    fn build_by_library(&mut self, letters: &[u8]) -> Figures {
+    fn build_by_library<L: Letter>(&mut self, letters: &[L]) -> Figures {
         let ([a, b, c, d], tree) = (&mut self.tables, &mut self.tree);
-        let built = lyndon::build(letters, letters.len(), a, b, c, d, tree).expect("not refused");
+        let built = L::BUILD(letters, letters.len(), a, b, c, d, tree).expect("not refused");
         Figures {
             finished: built.finished,
             rows: built.rows,
@@ -161,7 +201,7 @@ impl Buffers {
         }
     }
 
-    fn build_by_plain_rust(&mut self, letters: &[u8]) -> Figures {
+    fn build_by_plain_rust<L: Letter>(&mut self, letters: &[L]) -> Figures {
         let ([a, b, c, d], tree) = (&mut self.tables, &mut self.tree);
         fast::build(letters, letters.len(), a, b, c, d, tree).expect("not refused")
     }
@@ -174,22 +214,23 @@ fn print_head(columns: &str) {
 }
 
 /// The kinds of strings, and bases with and without masked ones.
-fn kinds_for_builds(random: &mut Random, n: usize) -> Vec<(&'static str, Vec<u8>)> {
+fn kinds_for_builds(random: &mut Random, n: usize) -> Kinds<u8> {
     let mut kinds = samples::kinds(random, n);
     kinds.extend(samples::bases(random, n));
     kinds
 }
 
-fn compare_builds() {
-    println!("\nBuilds of {LETTERS} letters, {BUILD_ROUNDS} rounds.");
-    print_head(&format!("letters | {}", Comparison::COLUMNS));
+fn compare_builds<L: Letter>(kinds: &Kinds<L>) {
+    let letters = L::NAMES;
+    println!("\nBuilds of {LETTERS} {letters}, {BUILD_ROUNDS} rounds.");
+    print_head(&format!("{letters} | {}", Comparison::COLUMNS));
     let mut buffers = Buffers::new(LETTERS);
-    for (kind, letters) in kinds_for_builds(&mut Random::new(41), LETTERS) {
+    for (kind, letters) in kinds {
         let comparison = Comparison::run(
             BUILD_ROUNDS,
             &mut buffers,
-            |buffers| buffers.build_by_library(black_box(&letters)),
-            |buffers| buffers.build_by_plain_rust(black_box(&letters)),
+            |buffers| buffers.build_by_library(black_box(letters)),
+            |buffers| buffers.build_by_plain_rust(black_box(letters)),
         );
         println!("| {kind} | {} |", comparison.row());
     }
@@ -231,21 +272,22 @@ fn measure_growth_of_builds() {
 }
 
 /// Checks of right next tables, which look at every entry.
-fn compare_checks() {
-    println!("\nChecks of right next tables of {LETTERS} letters, {BUILD_ROUNDS} rounds.");
-    print_head(&format!("letters | {}", Comparison::COLUMNS));
+fn compare_checks<L: Letter>(kinds: &Kinds<L>) {
+    let letters = L::NAMES;
+    println!("\nChecks of right next tables of {LETTERS} {letters}, {BUILD_ROUNDS} rounds.");
+    print_head(&format!("{letters} | {}", Comparison::COLUMNS));
     let mut work: [Vec<u32>; 4] = std::array::from_fn(|_| vec![0; LETTERS]);
-    for (kind, letters) in kinds_for_builds(&mut Random::new(47), LETTERS) {
-        let claimed = fast::structure(&letters, LETTERS).tables.next;
+    for (kind, letters) in kinds {
+        let claimed = fast::structure(letters, LETTERS).tables.next;
         let comparison = Comparison::run(
             BUILD_ROUNDS,
             &mut work,
             |[a, b, c, d]| {
-                let found = lyndon::check_into(black_box(&letters), &claimed, a, b, c, d);
-                found.expect("not refused") == lyndon::Checked::Right
+                let found = L::CHECK(black_box(letters), &claimed, a, b, c, d);
+                found.expect("not refused") == Checked::Right
             },
             |[a, b, c, d]| {
-                let wrong = fast::check(black_box(&letters), &claimed, a, b, c, d);
+                let wrong = fast::check(black_box(letters), &claimed, a, b, c, d);
                 wrong.expect("not refused").is_none()
             },
         );
@@ -269,8 +311,8 @@ impl RunsBuffers {
         }
     }
 
-    fn report_by_library(&mut self, letters: &[u8]) -> usize {
-        let reply = lyndon::raw::runs(
+    fn report_by_library<L: Letter>(&mut self, letters: &[L]) -> usize {
+        let reply = L::REPORT(
             letters,
             self.lists.each_mut().map(Vec::as_mut_slice),
             self.work.each_mut().map(Vec::as_mut_slice),
@@ -279,7 +321,7 @@ impl RunsBuffers {
         reply.value
     }
 
-    fn report_by_plain_rust(&mut self, letters: &[u8]) -> usize {
+    fn report_by_plain_rust<L: Letter>(&mut self, letters: &[L]) -> usize {
         fast_runs::report(
             letters,
             self.lists.each_mut().map(Vec::as_mut_slice),
@@ -292,7 +334,7 @@ impl RunsBuffers {
 /// The kinds of strings, and more for the runs: on squares the report moves the most entries, on the ruler
 /// it compares the most letters for no run at all. Fibonacci has the most comparisons. The last are bases in
 /// mixed case at random.
-fn kinds_for_runs(random: &mut Random, n: usize) -> Vec<(&'static str, Vec<u8>)> {
+fn kinds_for_runs(random: &mut Random, n: usize) -> Kinds<u8> {
     let mut kinds = samples::kinds(random, n);
     kinds.extend([
         ("period doubling", samples::period_doubling(n)),
@@ -303,18 +345,19 @@ fn kinds_for_runs(random: &mut Random, n: usize) -> Vec<(&'static str, Vec<u8>)>
     kinds
 }
 
-fn compare_runs() {
-    println!("\nRuns of {LETTERS} letters, {RUNS_ROUNDS} rounds.");
-    print_head(&format!("letters | runs | {}", Comparison::COLUMNS));
-    for (kind, letters) in kinds_for_runs(&mut Random::new(44), LETTERS) {
+fn compare_runs<L: Letter>(kinds: &Kinds<L>) {
+    let letters = L::NAMES;
+    println!("\nRuns of {LETTERS} {letters}, {RUNS_ROUNDS} rounds.");
+    print_head(&format!("{letters} | runs | {}", Comparison::COLUMNS));
+    for (kind, letters) in kinds {
         let mut buffers = RunsBuffers::new(LETTERS);
         let comparison = Comparison::run(
             RUNS_ROUNDS,
             &mut buffers,
-            |buffers| buffers.report_by_library(black_box(&letters)),
-            |buffers| buffers.report_by_plain_rust(black_box(&letters)),
+            |buffers| buffers.report_by_library(black_box(letters)),
+            |buffers| buffers.report_by_plain_rust(black_box(letters)),
         );
-        let number = buffers.report_by_library(&letters);
+        let number = buffers.report_by_library(letters);
         println!("| {kind} | {number} | {} |", comparison.row());
     }
 }
@@ -506,14 +549,14 @@ fn main() {
     let asked = |part: &str| wanted.is_empty() || wanted.iter().any(|name| name == part);
     println!("{LEGEND}");
     if asked("builds") {
-        compare_builds();
+        compare_builds(&kinds_for_builds(&mut Random::new(41), LETTERS));
         measure_growth_of_builds();
     }
     if asked("checks") {
-        compare_checks();
+        compare_checks(&kinds_for_builds(&mut Random::new(47), LETTERS));
     }
     if asked("runs") {
-        compare_runs();
+        compare_runs(&kinds_for_runs(&mut Random::new(44), LETTERS));
         measure_growth_of_runs();
     }
     if asked("trees") {
@@ -524,5 +567,11 @@ fn main() {
     }
     if asked("cabinets") {
         compare_cabinets(&trees());
+    }
+    if asked("symbols") {
+        let kinds = samples::symbol_kinds(&mut Random::new(48), LETTERS);
+        compare_builds(&kinds);
+        compare_checks(&kinds);
+        compare_runs(&kinds);
     }
 }

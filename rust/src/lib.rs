@@ -1,18 +1,22 @@
 //! The Lyndon structure of a string: for each position the nearest smaller suffix before and after
 //! it, the letters they share, and the bracket tree of the previous smaller suffixes. Many trees fit in
 //! one cabinet file, written by [`cabinet_write`] and read by [`cabinet_read`]. [`runs()`] gives all tandem
-//! repeats, and [`check`] says whether a next table that others made is right.
+//! repeats, and [`check`] says whether a next table that others made is right. Letters are bytes, or numbers of
+//! 32 bits, such as allele lengths.
 //!
 //! This is a safe wrapper of `liblyndon.a`. Nothing has to be tested before a call: every input is
 //! answered, by a value or by a [`Refusal`], and a refusal writes nothing to the lent memory, but for
-//! [`Refusal::TooManyRuns`], which clears the work memory of [`runs_into`].
+//! [`Refusal::TooManyRuns`], which clears the work memory of [`runs_into`] and [`runs32_into`].
 //!
 //! A string has at most [`MAX_LETTERS`] letters of one byte, which compare by their unsigned value, but
 //! small letters, bytes 97 to 122, as the capitals, 65 to 90: a masked letter counts as the same letter.
-//! So `A` and `a` are equal, here and everywhere below, and the answers for a string are those for the
-//! same string in capitals. A proper prefix is smaller than the longer string. Positions count from 0.
-//! 'None' is written n, the number of letters. The match of two positions is the number of leading letters
-//! that the suffixes there share.
+//! So `A` and `a` are equal, and the answers for a string are those for the same string in capitals. A
+//! proper prefix is smaller than the longer string. Positions count from 0. 'None' is written n, the number
+//! of letters. The match of two positions is the number of leading letters that the suffixes there share.
+//!
+//! [`Structure::of_symbols`], and the functions with 32 in their names, take symbols of 32 bits for letters.
+//! Symbols compare as numbers, with no masking, and every value may occur. All else that is said of letters
+//! holds of symbols, and positions and lengths count them.
 //!
 //! A question ([`previous()`], [`next()`], [`place`]) judges the whole tree each time, which takes some 0.2
 //! to 0.5 ms at 1,000,000 positions; [`read`] gives all entries in 1 to 6 ms. For one position ask; for
@@ -31,7 +35,7 @@
 //! // The tree alone gives the tables back, and answers for one position.
 //! let (mut previous, mut next) = (vec![0; 6], vec![0; 6]);
 //! lyndon::read(6, &banana.tree, &mut previous, &mut next)?;
-//! assert_eq!((previous, next), (banana.previous, banana.next));
+//! assert_eq!((&previous, &next), (&banana.previous, &banana.next));
 //! assert_eq!(lyndon::next(6, &banana.tree, 1)?, 3);
 //!
 //! assert_eq!(lyndon::longest_word(b"banana", 1)?, b"an");
@@ -44,6 +48,10 @@
 //! // Masked letters count as the same, and a word is a part of the string as it stands.
 //! assert_eq!(Structure::of(b"baNAna")?, Structure::of(b"banana")?);
 //! assert_eq!(lyndon::longest_word(b"baNAna", 1)?, b"aN");
+//!
+//! // Of symbols of 32 bits no value counts as another.
+//! assert_eq!(Structure::of_symbols(&[98, 97, 110, 97, 110, 97])?, banana);
+//! assert_ne!(Structure::of_symbols(&[98, 97, 78, 65, 110, 97])?, banana);
 //! # Ok::<(), lyndon::Refusal>(())
 //! ```
 
@@ -66,7 +74,7 @@ pub fn version() -> u32 {
     unsafe { raw::lyndon_version() }
 }
 
-/// The greatest number of letters that is taken.
+/// The greatest number of letters, bytes or symbols, that is taken.
 pub const MAX_LETTERS: usize = 1_000_000;
 
 /// The greatest number of entries that a cabinet has.
@@ -81,7 +89,7 @@ pub enum Refusal {
     TooLong = 1,
     /// 2: a lent table not exactly n entries of 32 bits long (four tables for the build, previous and
     /// next for reading a tree, six work tables for the runs, the claimed table and four work tables for
-    /// a check). [`runs_into`]: work memory of fewer than [`runs_work_length`]`(n)` entries.
+    /// a check). [`runs_into`], [`runs32_into`]: work memory of fewer than [`runs_work_length`]`(n)` entries.
     TableLength = 2,
     /// 3: the tree not exactly ceil(n/4) bytes. Writing a cabinet: the trees or the buffer not exactly
     /// as many bytes as the letter counts ask for.
@@ -200,9 +208,21 @@ pub struct Built {
     pub reach: usize,
 }
 
+/// What a reply to a build says.
+fn built(reply: raw::BuildReply) -> Result<Built, Refusal> {
+    Refusal::check(reply.refusal)?;
+    Ok(Built {
+        finished: reply.finished != 0,
+        rows: reply.rows,
+        equal: reply.equal,
+        unequal: reply.unequal,
+        reach: reply.reach,
+    })
+}
+
 /// The number of letters that memory is taken for. Too many letters are refused whatever is lent, so
 /// none is taken for them.
-fn lent_entries(letters: &[u8]) -> usize {
+fn lent_entries<L>(letters: &[L]) -> usize {
     if letters.len() > MAX_LETTERS {
         0
     } else {
@@ -238,7 +258,7 @@ pub fn build(
     next_match: &mut [u32],
     tree: &mut [u8],
 ) -> Result<Built, Refusal> {
-    let reply = raw::build(
+    built(raw::build(
         letters,
         rows,
         previous,
@@ -246,15 +266,33 @@ pub fn build(
         previous_match,
         next_match,
         tree,
-    );
-    Refusal::check(reply.refusal)?;
-    Ok(Built {
-        finished: reply.finished != 0,
-        rows: reply.rows,
-        equal: reply.equal,
-        unequal: reply.unequal,
-        reach: reply.reach,
-    })
+    ))
+}
+
+/// Builds the first `rows` rows of the structure of symbols of 32 bits into lent memory, as [`build`] does of
+/// letters. With n symbols, each table has n entries and the tree [`tree_length`]`(n)` bytes.
+///
+/// # Errors
+///
+/// Refusals 1 to 4. Nothing is written then.
+pub fn build32(
+    symbols: &[u32],
+    rows: usize,
+    previous: &mut [u32],
+    next: &mut [u32],
+    previous_match: &mut [u32],
+    next_match: &mut [u32],
+    tree: &mut [u8],
+) -> Result<Built, Refusal> {
+    built(raw::build32(
+        symbols,
+        rows,
+        previous,
+        next,
+        previous_match,
+        next_match,
+        tree,
+    ))
 }
 
 /// Reads the tree of `n` positions back into the two tables. All their entries are written.
@@ -318,8 +356,25 @@ pub fn place(n: usize, tree: &[u8], position: usize) -> Result<usize, Refusal> {
 ///
 /// Refusals 1 and 5.
 pub fn longest_word(letters: &[u8], position: usize) -> Result<&[u8], Refusal> {
-    // SAFETY: the pointer comes from a slice with its length.
-    let reply = unsafe { raw::lyndon_word(letters.as_ptr(), letters.len(), position) };
+    part(letters, raw::word(letters, position))
+}
+
+/// The longest Lyndon word of symbols of 32 bits that starts at `position`, as a part of `symbols` itself.
+///
+/// ```
+/// assert_eq!(lyndon::longest_word32(&[12, 9, 300, 9, 300, 9], 1)?, [9, 300]);
+/// # Ok::<(), lyndon::Refusal>(())
+/// ```
+///
+/// # Errors
+///
+/// Refusals 1 and 5.
+pub fn longest_word32(symbols: &[u32], position: usize) -> Result<&[u32], Refusal> {
+    part(symbols, raw::word32(symbols, position))
+}
+
+/// The part of `letters` that a reply says.
+fn part<L>(letters: &[L], reply: raw::PartReply) -> Result<&[L], Refusal> {
     Refusal::check(reply.refusal).map(|()| &letters[reply.start..][..reply.length])
 }
 
@@ -355,6 +410,33 @@ pub struct Run {
 ///
 /// Refusal 1.
 pub fn runs(letters: &[u8]) -> Result<Vec<Run>, Refusal> {
+    runs_by(runs_into, letters)
+}
+
+/// All runs of symbols of 32 bits, each once, by start and then by period, as [`runs()`] gives those of
+/// letters. Whoever asks often lends the memory by [`runs32_into`].
+///
+/// ```
+/// let run = lyndon::Run { start: 1, end: 6, period: 2 };
+/// assert_eq!(lyndon::runs32(&[12, 9, 300, 9, 300, 9])?, [run]);
+/// // 65 and 97 are two symbols.
+/// assert_eq!(lyndon::runs32(&[65, 97])?, []);
+/// # Ok::<(), lyndon::Refusal>(())
+/// ```
+///
+/// # Errors
+///
+/// Refusal 1.
+pub fn runs32(symbols: &[u32]) -> Result<Vec<Run>, Refusal> {
+    runs_by(runs32_into, symbols)
+}
+
+/// A function that reports runs in starts, ends, periods and work memory.
+type RunsInto<L> =
+    fn(&[L], &mut [u32], &mut [u32], &mut [u32], &mut [u32]) -> Result<usize, Refusal>;
+
+/// The runs that `runs_into` reports.
+fn runs_by<L>(runs_into: RunsInto<L>, letters: &[L]) -> Result<Vec<Run>, Refusal> {
     let n = lent_entries(letters);
     let [mut starts, mut ends, mut periods] = std::array::from_fn(|_| vec![0; n.saturating_sub(1)]);
     let mut work = vec![0; runs_work_length(n)];
@@ -369,7 +451,8 @@ pub fn runs(letters: &[u8]) -> Result<Vec<Run>, Refusal> {
         .collect())
 }
 
-/// The entries of the work memory that [`runs_into`] uses for `n` letters: 6 n, for six tables.
+/// The entries of the work memory that [`runs_into`] uses for `n` letters, and [`runs32_into`] for `n`
+/// symbols: 6 n, for six tables.
 pub fn runs_work_length(n: usize) -> usize {
     n.saturating_mul(6)
 }
@@ -411,16 +494,39 @@ pub fn runs_into(
     periods: &mut [u32],
     work: &mut [u32],
 ) -> Result<usize, Refusal> {
-    // Too little work memory makes tables that are too short, which are refused.
-    let entries = letters.len().min(work.len() / 6);
+    let tables = work_tables(letters.len(), work);
+    let reply = raw::runs(letters, [starts, ends, periods], tables);
+    Refusal::check(reply.refusal).map(|()| reply.value)
+}
+
+/// Reports all runs of symbols of 32 bits in lent memory, and returns their number, as [`runs_into`] does of
+/// letters. With n symbols, `work` has [`runs_work_length`]`(n)` entries or more.
+///
+/// # Errors
+///
+/// Refusals 1, 2, 12, 13, with the memory left as by [`runs_into`].
+pub fn runs32_into(
+    symbols: &[u32],
+    starts: &mut [u32],
+    ends: &mut [u32],
+    periods: &mut [u32],
+    work: &mut [u32],
+) -> Result<usize, Refusal> {
+    let tables = work_tables(symbols.len(), work);
+    let reply = raw::runs32(symbols, [starts, ends, periods], tables);
+    Refusal::check(reply.refusal).map(|()| reply.value)
+}
+
+/// The first six tables of n entries in the work memory. Too little of it makes tables that are too short,
+/// which are refused.
+fn work_tables(n: usize, work: &mut [u32]) -> [&mut [u32]; 6] {
+    let entries = n.min(work.len() / 6);
     let mut rest = work;
-    let tables = std::array::from_fn(|_| {
+    std::array::from_fn(|_| {
         let (table, behind) = std::mem::take(&mut rest).split_at_mut(entries);
         rest = behind;
         table
-    });
-    let reply = raw::runs(letters, [starts, ends, periods], tables);
-    Refusal::check(reply.refusal).map(|()| reply.value)
+    })
 }
 
 /// What is found in a claimed next table.
@@ -454,6 +560,38 @@ pub enum Checked {
 ///
 /// Refusals 1 and 2, the latter where `claimed` has not exactly n entries.
 pub fn check(letters: &[u8], claimed: &[u32]) -> Result<Checked, Refusal> {
+    check_by(check_into, letters, claimed)
+}
+
+/// Says whether `claimed` is the next table of symbols of 32 bits, as [`check`] does of letters. Whoever
+/// checks often lends the memory by [`check32_into`].
+///
+/// ```
+/// use lyndon::Checked;
+///
+/// let symbols = [12, 9, 300, 9, 300, 9];
+/// assert_eq!(lyndon::check32(&symbols, &[1, 3, 3, 5, 5, 6])?, Checked::Right);
+/// assert_eq!(lyndon::check32(&symbols, &[1, 3, 4, 5, 5, 0])?, Checked::WrongAt(2));
+/// # Ok::<(), lyndon::Refusal>(())
+/// ```
+///
+/// # Errors
+///
+/// Refusals 1 and 2, the latter where `claimed` has not exactly n entries.
+pub fn check32(symbols: &[u32], claimed: &[u32]) -> Result<Checked, Refusal> {
+    check_by(check32_into, symbols, claimed)
+}
+
+/// A function that checks a claimed table in previous, next and their matches.
+type CheckInto<L> =
+    fn(&[L], &[u32], &mut [u32], &mut [u32], &mut [u32], &mut [u32]) -> Result<Checked, Refusal>;
+
+/// What `check_into` finds.
+fn check_by<L>(
+    check_into: CheckInto<L>,
+    letters: &[L],
+    claimed: &[u32],
+) -> Result<Checked, Refusal> {
     let n = lent_entries(letters);
     let [mut previous, mut next, mut previous_match, mut next_match] =
         std::array::from_fn(|_| vec![0; n]);
@@ -483,7 +621,44 @@ pub fn check_into(
     previous_match: &mut [u32],
     next_match: &mut [u32],
 ) -> Result<Checked, Refusal> {
-    let reply = raw::check(letters, claimed, previous, next, previous_match, next_match);
+    checked(raw::check(
+        letters,
+        claimed,
+        previous,
+        next,
+        previous_match,
+        next_match,
+    ))
+}
+
+/// Checks a claimed next table of symbols of 32 bits as [`check32`] does, in lent memory.
+///
+/// With n symbols, each of the four work tables has n entries. All of them are written, whatever they held
+/// before and whichever the answer: they hold the four tables that [`build32`] leaves after n rows.
+///
+/// # Errors
+///
+/// Refusals 1 and 2, the latter for `claimed` or any work table. Nothing is written then.
+pub fn check32_into(
+    symbols: &[u32],
+    claimed: &[u32],
+    previous: &mut [u32],
+    next: &mut [u32],
+    previous_match: &mut [u32],
+    next_match: &mut [u32],
+) -> Result<Checked, Refusal> {
+    checked(raw::check32(
+        symbols,
+        claimed,
+        previous,
+        next,
+        previous_match,
+        next_match,
+    ))
+}
+
+/// What a reply to a check says.
+fn checked(reply: raw::CheckReply) -> Result<Checked, Refusal> {
     Refusal::check(reply.refusal)?;
     Ok(if reply.right != 0 {
         Checked::Right
@@ -611,6 +786,17 @@ pub fn cabinet_read(file: &[u8], entry: usize) -> Result<CabinetEntry<'_>, Refus
     })
 }
 
+/// A function that builds rows into previous, next, their matches and the tree.
+type Build<L> = fn(
+    &[L],
+    usize,
+    &mut [u32],
+    &mut [u32],
+    &mut [u32],
+    &mut [u32],
+    &mut [u8],
+) -> Result<Built, Refusal>;
+
 /// The tables and the tree of a string, in memory of their own. See [`build`].
 #[derive(Debug, Clone, PartialEq, Eq)]
 pub struct Structure {
@@ -644,6 +830,45 @@ impl Structure {
     ///
     /// Refusals 1 and 4.
     pub fn halted(letters: &[u8], rows: usize) -> Result<Structure, Refusal> {
+        Structure::by(build, letters, rows)
+    }
+
+    /// The whole structure of symbols of 32 bits, which compare as numbers, with no masking. Every value may
+    /// occur, and the tables and the tree count symbols.
+    ///
+    /// ```
+    /// use lyndon::Structure;
+    ///
+    /// // Allele lengths. In the order of their numbers they stand as the letters of banana do.
+    /// let lengths = [12, 9, 300, 9, 300, 9];
+    /// let structure = Structure::of_symbols(&lengths)?;
+    /// assert_eq!(structure.next, [1, 3, 3, 5, 5, 6]);
+    /// assert_eq!(structure, Structure::of(b"banana")?);
+    ///
+    /// // As letters a and A are the same, as symbols 97 and 65 are not.
+    /// assert_eq!(Structure::of(b"aA")?.next_match, [1, 0]);
+    /// assert_eq!(Structure::of_symbols(&[97, 65])?.next_match, [0, 0]);
+    /// # Ok::<(), lyndon::Refusal>(())
+    /// ```
+    ///
+    /// # Errors
+    ///
+    /// Refusal 1.
+    pub fn of_symbols(symbols: &[u32]) -> Result<Structure, Refusal> {
+        Structure::halted_symbols(symbols, symbols.len())
+    }
+
+    /// The structure of symbols of 32 bits after `rows` rows.
+    ///
+    /// # Errors
+    ///
+    /// Refusals 1 and 4.
+    pub fn halted_symbols(symbols: &[u32], rows: usize) -> Result<Structure, Refusal> {
+        Structure::by(build32, symbols, rows)
+    }
+
+    /// The structure that `build` leaves after `rows` rows.
+    fn by<L>(build: Build<L>, letters: &[L], rows: usize) -> Result<Structure, Refusal> {
         let n = lent_entries(letters);
         let [mut previous, mut next, mut previous_match, mut next_match] =
             std::array::from_fn(|_| vec![0; n]);

@@ -1,10 +1,10 @@
-//! The functions of `liblyndon.a` as they are exported, and the build, the runs and the check over slices. A slice passes as a
-//! pointer and a length. `include/lyndon.h` declares the same.
+//! The functions of `liblyndon.a` as they are exported, and the build, the word, the runs and the check over slices. A slice passes
+//! as a pointer and a length. `include/lyndon.h` declares the same.
 
 /// The version of these declarations, `LYNDON_VERSION` in the header. [`lyndon_version`] returns that of the archive.
-pub const VERSION: u32 = 4;
+pub const VERSION: u32 = 5;
 
-/// The answer of [`lyndon_build`].
+/// The answer of [`lyndon_build`] and [`lyndon_build32`].
 #[repr(C)]
 #[derive(Debug, Clone, Copy, PartialEq, Eq)]
 pub struct BuildReply {
@@ -22,7 +22,7 @@ pub struct BuildReply {
     pub reach: usize,
 }
 
-/// The answer to a question put to a tree, and that of [`lyndon_runs`].
+/// The answer to a question put to a tree, and that of [`lyndon_runs`] and [`lyndon_runs32`].
 #[repr(C)]
 #[derive(Debug, Clone, Copy, PartialEq, Eq)]
 pub struct Reply {
@@ -32,7 +32,7 @@ pub struct Reply {
     pub value: usize,
 }
 
-/// The answer of [`lyndon_check`].
+/// The answer of [`lyndon_check`] and [`lyndon_check32`].
 #[repr(C)]
 #[derive(Debug, Clone, Copy, PartialEq, Eq)]
 pub struct CheckReply {
@@ -44,7 +44,7 @@ pub struct CheckReply {
     pub position: usize,
 }
 
-/// A part of the caller's string.
+/// A part of the caller's string, counted in letters.
 #[repr(C)]
 #[derive(Debug, Clone, Copy, PartialEq, Eq)]
 pub struct PartReply {
@@ -72,93 +72,114 @@ pub struct CabinetReply {
     pub length: usize,
 }
 
-/// [`lyndon_build`] over slices.
-pub fn build(
-    letters: &[u8],
-    rows: usize,
-    previous: &mut [u32],
-    next: &mut [u32],
-    previous_match: &mut [u32],
-    next_match: &mut [u32],
-    tree: &mut [u8],
-) -> BuildReply {
-    // SAFETY: each pointer comes from a slice with its length, and exclusive slices do not overlap.
-    unsafe {
-        lyndon_build(
-            letters.as_ptr(),
-            letters.len(),
-            rows,
-            previous.as_mut_ptr(),
-            previous.len(),
-            next.as_mut_ptr(),
-            next.len(),
-            previous_match.as_mut_ptr(),
-            previous_match.len(),
-            next_match.as_mut_ptr(),
-            next_match.len(),
-            tree.as_mut_ptr(),
-            tree.len(),
-        )
-    }
+/// The functions for letters of one type over slices, each by the exported one.
+macro_rules! over_slices {
+    ($letter:ty: $build:ident by $lyndon_build:ident, $word:ident by $lyndon_word:ident,
+     $runs:ident by $lyndon_runs:ident, $check:ident by $lyndon_check:ident) => {
+        #[doc = concat!("[`", stringify!($lyndon_build), "`] over slices.")]
+        pub fn $build(
+            letters: &[$letter],
+            rows: usize,
+            previous: &mut [u32],
+            next: &mut [u32],
+            previous_match: &mut [u32],
+            next_match: &mut [u32],
+            tree: &mut [u8],
+        ) -> BuildReply {
+            // SAFETY: each pointer comes from a slice with its length, and exclusive slices do not overlap.
+            unsafe {
+                $lyndon_build(
+                    letters.as_ptr(),
+                    letters.len(),
+                    rows,
+                    previous.as_mut_ptr(),
+                    previous.len(),
+                    next.as_mut_ptr(),
+                    next.len(),
+                    previous_match.as_mut_ptr(),
+                    previous_match.len(),
+                    next_match.as_mut_ptr(),
+                    next_match.len(),
+                    tree.as_mut_ptr(),
+                    tree.len(),
+                )
+            }
+        }
+
+        #[doc = concat!("[`", stringify!($lyndon_word), "`] over slices.")]
+        pub fn $word(letters: &[$letter], position: usize) -> PartReply {
+            // SAFETY: the pointer comes from a slice with its length.
+            unsafe { $lyndon_word(letters.as_ptr(), letters.len(), position) }
+        }
+
+        #[doc = concat!("[`", stringify!($lyndon_runs), "`] over slices.")]
+        /// `lists` are the starts, the ends and the periods.
+        pub fn $runs(letters: &[$letter], lists: [&mut [u32]; 3], work: [&mut [u32]; 6]) -> Reply {
+            let [starts, ends, periods] = lists;
+            let [work_1, work_2, work_3, work_4, work_5, work_6] = work;
+            // SAFETY: each pointer comes from a slice with its length, and exclusive slices do not overlap.
+            unsafe {
+                $lyndon_runs(
+                    letters.as_ptr(),
+                    letters.len(),
+                    starts.as_mut_ptr(),
+                    starts.len(),
+                    ends.as_mut_ptr(),
+                    ends.len(),
+                    periods.as_mut_ptr(),
+                    periods.len(),
+                    work_1.as_mut_ptr(),
+                    work_1.len(),
+                    work_2.as_mut_ptr(),
+                    work_2.len(),
+                    work_3.as_mut_ptr(),
+                    work_3.len(),
+                    work_4.as_mut_ptr(),
+                    work_4.len(),
+                    work_5.as_mut_ptr(),
+                    work_5.len(),
+                    work_6.as_mut_ptr(),
+                    work_6.len(),
+                )
+            }
+        }
+
+        #[doc = concat!("[`", stringify!($lyndon_check), "`] over slices.")]
+        pub fn $check(
+            letters: &[$letter],
+            claimed: &[u32],
+            previous: &mut [u32],
+            next: &mut [u32],
+            previous_match: &mut [u32],
+            next_match: &mut [u32],
+        ) -> CheckReply {
+            // SAFETY: each pointer comes from a slice with its length, and exclusive slices do not overlap.
+            unsafe {
+                $lyndon_check(
+                    letters.as_ptr(),
+                    letters.len(),
+                    claimed.as_ptr(),
+                    claimed.len(),
+                    previous.as_mut_ptr(),
+                    previous.len(),
+                    next.as_mut_ptr(),
+                    next.len(),
+                    previous_match.as_mut_ptr(),
+                    previous_match.len(),
+                    next_match.as_mut_ptr(),
+                    next_match.len(),
+                )
+            }
+        }
+    };
 }
 
-/// [`lyndon_runs`] over slices. `lists` are the starts, the ends and the periods.
-pub fn runs(letters: &[u8], lists: [&mut [u32]; 3], work: [&mut [u32]; 6]) -> Reply {
-    let [starts, ends, periods] = lists;
-    let [work_1, work_2, work_3, work_4, work_5, work_6] = work;
-    // SAFETY: each pointer comes from a slice with its length, and exclusive slices do not overlap.
-    unsafe {
-        lyndon_runs(
-            letters.as_ptr(),
-            letters.len(),
-            starts.as_mut_ptr(),
-            starts.len(),
-            ends.as_mut_ptr(),
-            ends.len(),
-            periods.as_mut_ptr(),
-            periods.len(),
-            work_1.as_mut_ptr(),
-            work_1.len(),
-            work_2.as_mut_ptr(),
-            work_2.len(),
-            work_3.as_mut_ptr(),
-            work_3.len(),
-            work_4.as_mut_ptr(),
-            work_4.len(),
-            work_5.as_mut_ptr(),
-            work_5.len(),
-            work_6.as_mut_ptr(),
-            work_6.len(),
-        )
-    }
+over_slices! {
+    u8: build by lyndon_build, word by lyndon_word, runs by lyndon_runs, check by lyndon_check
 }
-
-/// [`lyndon_check`] over slices.
-pub fn check(
-    letters: &[u8],
-    claimed: &[u32],
-    previous: &mut [u32],
-    next: &mut [u32],
-    previous_match: &mut [u32],
-    next_match: &mut [u32],
-) -> CheckReply {
-    // SAFETY: each pointer comes from a slice with its length, and exclusive slices do not overlap.
-    unsafe {
-        lyndon_check(
-            letters.as_ptr(),
-            letters.len(),
-            claimed.as_ptr(),
-            claimed.len(),
-            previous.as_mut_ptr(),
-            previous.len(),
-            next.as_mut_ptr(),
-            next.len(),
-            previous_match.as_mut_ptr(),
-            previous_match.len(),
-            next_match.as_mut_ptr(),
-            next_match.len(),
-        )
-    }
+over_slices! {
+    u32: build32 by lyndon_build32, word32 by lyndon_word32,
+    runs32 by lyndon_runs32, check32 by lyndon_check32
 }
 
 extern "C" {
@@ -178,6 +199,28 @@ extern "C" {
     pub fn lyndon_build(
         letters: *const u8,
         letters_length: usize,
+        rows: usize,
+        previous: *mut u32,
+        previous_length: usize,
+        next: *mut u32,
+        next_length: usize,
+        previous_match: *mut u32,
+        previous_match_length: usize,
+        next_match: *mut u32,
+        next_match_length: usize,
+        tree: *mut u8,
+        tree_length: usize,
+    ) -> BuildReply;
+
+    /// As [`lyndon_build`], of symbols of 32 bits. They compare as numbers, with no masking, and lengths count
+    /// symbols and not bytes.
+    ///
+    /// # Safety
+    ///
+    /// As for [`lyndon_build`].
+    pub fn lyndon_build32(
+        symbols: *const u32,
+        symbols_length: usize,
         rows: usize,
         previous: *mut u32,
         previous_length: usize,
@@ -235,6 +278,13 @@ extern "C" {
     /// `letters` is not null and points to `letters_length` bytes.
     pub fn lyndon_word(letters: *const u8, letters_length: usize, position: usize) -> PartReply;
 
+    /// As [`lyndon_word`], of symbols of 32 bits: see [`lyndon_build32`].
+    ///
+    /// # Safety
+    ///
+    /// `symbols` is not null, aligned, and points to `symbols_length` symbols.
+    pub fn lyndon_word32(symbols: *const u32, symbols_length: usize, position: usize) -> PartReply;
+
     /// Reports all runs. The value is their number. The work tables have `letters_length` entries each.
     ///
     /// # Safety
@@ -263,6 +313,34 @@ extern "C" {
         work_6_length: usize,
     ) -> Reply;
 
+    /// As [`lyndon_runs`], of symbols of 32 bits: see [`lyndon_build32`].
+    ///
+    /// # Safety
+    ///
+    /// As for [`lyndon_build`].
+    pub fn lyndon_runs32(
+        symbols: *const u32,
+        symbols_length: usize,
+        starts: *mut u32,
+        starts_length: usize,
+        ends: *mut u32,
+        ends_length: usize,
+        periods: *mut u32,
+        periods_length: usize,
+        work_1: *mut u32,
+        work_1_length: usize,
+        work_2: *mut u32,
+        work_2_length: usize,
+        work_3: *mut u32,
+        work_3_length: usize,
+        work_4: *mut u32,
+        work_4_length: usize,
+        work_5: *mut u32,
+        work_5_length: usize,
+        work_6: *mut u32,
+        work_6_length: usize,
+    ) -> Reply;
+
     /// Checks a claimed next table. Where it is not refused, the work tables are left as by a finished build.
     ///
     /// # Safety
@@ -271,6 +349,26 @@ extern "C" {
     pub fn lyndon_check(
         letters: *const u8,
         letters_length: usize,
+        claimed: *const u32,
+        claimed_length: usize,
+        previous: *mut u32,
+        previous_length: usize,
+        next: *mut u32,
+        next_length: usize,
+        previous_match: *mut u32,
+        previous_match_length: usize,
+        next_match: *mut u32,
+        next_match_length: usize,
+    ) -> CheckReply;
+
+    /// As [`lyndon_check`], of symbols of 32 bits: see [`lyndon_build32`].
+    ///
+    /// # Safety
+    ///
+    /// As for [`lyndon_build`].
+    pub fn lyndon_check32(
+        symbols: *const u32,
+        symbols_length: usize,
         claimed: *const u32,
         claimed_length: usize,
         previous: *mut u32,

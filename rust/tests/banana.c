@@ -170,6 +170,70 @@ static int check_agrees(void)
         && is_found(next, 1, 0) && is_found(twice_wrong, 0, 2) && is_found(beyond_none, 0, 5);
 }
 
+/* Symbols that compare as the letters of banana do, which they would not as signed numbers; and the values of banana with masked
+ * letters, which as symbols have no run. */
+static const uint32_t symbols[N] = {0x80000000u, 97, 0xffffffffu, 97, 0xffffffffu, 97};
+static const uint32_t masked_symbols[N] = {'b', 'A', 'N', 'a', 'n', 'A'};
+
+/* Whether the symbols have the tables, the tree and the longest words of banana, and a position or a row too many is refused. */
+static int symbols_agree(void)
+{
+    static uint32_t tables[4][N];
+    static uint8_t brackets[TREE_LENGTH];
+    LyndonBuildReply refused = lyndon_build32(symbols, N, N + 1, tables[0], N, tables[1], N, tables[2], N, tables[3], N,
+                                              brackets, TREE_LENGTH);
+    LyndonBuildReply built = lyndon_build32(symbols, N, N, tables[0], N, tables[1], N, tables[2], N, tables[3], N,
+                                            brackets, TREE_LENGTH);
+    LyndonPartReply outside = lyndon_word32(symbols, N, N);
+    size_t i;
+    for (i = 0; i < N; i++) {
+        LyndonPartReply word = lyndon_word32(symbols, N, i);
+        if (word.refusal != 0 || word.start != i || word.length != next[i] - i) {
+            return 0;
+        }
+    }
+    return refused.refusal == LYNDON_TOO_MANY_ROWS && refused.rows == 0 && outside.refusal == LYNDON_POSITION_OUTSIDE
+        && built.refusal == 0 && built.finished == 1 && built.rows == N
+        && built.equal == 3 && built.unequal == 3 && built.reach == 6
+        && are_banana(tables) && memcmp(brackets, tree, TREE_LENGTH) == 0;
+}
+
+/* The runs of so many symbols as banana has letters, over work tables that hold 7. */
+static LyndonReply runs_of_symbols(const uint32_t *list)
+{
+    fill_work(7);
+    return lyndon_runs32(list, N, starts, N - 1, ends, N - 1, periods, N - 1, work[0], N, work[1], N, work[2], N,
+                         work[3], N, work[4], N, work[5], N);
+}
+
+/* Whether the symbols have the run of banana, and those of the masked letters none. */
+static int runs_of_symbols_agree(void)
+{
+    LyndonReply one = runs_of_symbols(symbols);
+    int found = starts[0] == 1 && ends[0] == 6 && periods[0] == 2 && starts[1] == 0 && work_holds(0);
+    LyndonReply none = runs_of_symbols(masked_symbols);
+    return one.refusal == 0 && one.value == 1 && found
+        && none.refusal == 0 && none.value == 0 && ends[0] == 0 && work_holds(0);
+}
+
+/* Whether a check of the symbols answers so, and leaves the tables of banana, or where it is refused the work tables. */
+static int is_found_of_symbols(const uint32_t *claimed, size_t entries, uint32_t refusal, uint32_t right, size_t position)
+{
+    LyndonCheckReply reply;
+    fill_work(7);
+    reply = lyndon_check32(symbols, N, claimed, entries, work[0], N, work[1], N, work[2], N, work[3], N);
+    return reply.refusal == refusal && reply.right == right && reply.position == position
+        && (refusal == 0 ? are_banana(work) : work_holds(7));
+}
+
+/* Whether banana's next table is that of the symbols, another is wrong at 2, and a shorter one is refused. */
+static int check_of_symbols_agrees(void)
+{
+    static const uint32_t twice_wrong[N] = {1, 3, 4, 5, 5, 0};
+    return is_found_of_symbols(next, N, 0, 1, 0) && is_found_of_symbols(twice_wrong, N, 0, 0, 2)
+        && is_found_of_symbols(next, N - 1, LYNDON_WRONG_TABLE_LENGTH, 0, 0);
+}
+
 int main(void)
 {
     size_t i;
@@ -202,6 +266,15 @@ int main(void)
     }
     if (!check_agrees()) {
         return failed("lyndon_check");
+    }
+    if (!symbols_agree()) {
+        return failed("lyndon_build32 and lyndon_word32");
+    }
+    if (!runs_of_symbols_agree()) {
+        return failed("lyndon_runs32");
+    }
+    if (!check_of_symbols_agrees()) {
+        return failed("lyndon_check32");
     }
 
     printf("length %d comparisons %lu tree ", N, (unsigned long)(built.equal + built.unequal));

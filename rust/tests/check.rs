@@ -3,33 +3,14 @@
 
 mod common;
 
-use common::{assert_check, assert_list, Fill, Guarded, LentForCheck, FILLS};
+use common::{
+    assert_check, assert_list, check_every_entry, check_some_entries, tried, Fill, Guarded,
+    LentForCheck, Letter, FILLS,
+};
 use lyndon::{check, raw, Checked, Refusal, Structure, MAX_LETTERS};
 use reference::definitions::{least_wrong, tables};
 use reference::samples::{self, Random};
 use reference::{fast, refusals, Tables};
-
-/// The entries that are tried at a position whose right entry is this one.
-fn tried(n: usize, right: u32) -> impl Iterator<Item = u32> {
-    let n = n as u32;
-    let tried = [0, n, n + 1, u32::MAX, right.wrapping_sub(1), right + 1];
-    tried.into_iter().filter(move |&entry| entry != right)
-}
-
-/// Asserts that the next table is right, and that each single wrong entry of those tried is found.
-fn check_every_entry(letters: &[u8], tables: &Tables) {
-    let n = letters.len();
-    let mut claimed = tables.next.clone();
-    assert_check(letters, &claimed, None, tables, FILLS[n % 2]);
-    for i in 0..n {
-        let right = claimed[i];
-        for (k, entry) in tried(n, right).enumerate() {
-            claimed[i] = entry;
-            assert_check(letters, &claimed, Some(i), tables, FILLS[k % 2]);
-        }
-        claimed[i] = right;
-    }
-}
 
 fn check_every_string(alphabet: &[u8], longest: usize) {
     for n in 0..=longest {
@@ -135,7 +116,13 @@ fn plain_rust_finds_the_same() {
 }
 
 /// Asserts that a check over memory of these lengths is refused, and leaves all of it.
-fn assert_refused(letters: &[u8], claimed: usize, work: [usize; 4], number: u32, fill: Fill) {
+fn assert_refused<L: Letter>(
+    letters: &[L],
+    claimed: usize,
+    work: [usize; 4],
+    number: u32,
+    fill: Fill,
+) {
     let mut claimed = Guarded::new(claimed, fill);
     let mut lent = LentForCheck::new(work, fill);
     let reply = lent.check_raw(letters, claimed.lent());
@@ -177,22 +164,31 @@ fn wrong_lengths_in_every_combination() {
             if let Err(number) = refusals::first(&refusals::of_check(n, claimed, work)) {
                 assert_eq!(number, 2);
                 assert_refused(letters, claimed, work, number, FILLS[claimed % 2]);
+                let symbols = samples::widened(letters);
+                assert_refused(&symbols, claimed, work, number, FILLS[claimed % 2]);
             }
         }
     }
 }
 
-#[test]
-fn too_many_letters_in_every_combination_with_wrong_lengths() {
-    let letters = vec![b'a'; MAX_LETTERS + 1];
+/// Asserts that a check of too many letters is refused, whatever the lengths are.
+fn check_too_many<L: Letter>(letters: &[L]) {
     for [claimed, work @ ..] in combinations(&[0, 7]) {
-        assert_refused(&letters, claimed, work, 1, FILLS[claimed % 2]);
+        assert_refused(letters, claimed, work, 1, FILLS[claimed % 2]);
     }
     let n = letters.len();
     for fill in FILLS {
-        assert_refused(&letters, n, [n; 4], 1, fill);
-        assert_refused(&letters, n - 1, [n; 4], 1, fill);
+        assert_refused(letters, n, [n; 4], 1, fill);
+        assert_refused(letters, n - 1, [n; 4], 1, fill);
     }
+}
+
+#[test]
+fn too_many_letters_in_every_combination_with_wrong_lengths() {
+    let n = MAX_LETTERS + 1;
+    let letters = vec![b'a'; n];
+    check_too_many(&letters);
+    check_too_many(&samples::widened(&letters));
     assert_eq!(check(&letters, &vec![0; n]), Err(Refusal::TooLong));
     assert_eq!(check(&letters, &[]), Err(Refusal::TooLong));
 }
@@ -215,25 +211,6 @@ fn the_claimed_table_is_left_as_it_is() {
     }
 }
 
-/// Asserts what is found in the right table, and where the first, a random, the last or two entries are
-/// wrong.
-fn check_long(random: &mut Random, letters: &[u8]) {
-    let n = letters.len();
-    let tables = fast::structure(letters, n).tables;
-    let mut claimed = tables.next.clone();
-    assert_check(letters, &claimed, None, &tables, FILLS[0]);
-    let middle = random.below(n);
-    for (k, i) in [0, middle, n - 1].into_iter().enumerate() {
-        let right = claimed[i];
-        claimed[i] = tried(n, right).nth(k).expect("three are tried");
-        assert_check(letters, &claimed, Some(i), &tables, FILLS[k % 2]);
-        claimed[i] = right;
-    }
-    claimed[n - 1] = 0;
-    claimed[middle] = u32::MAX;
-    assert_check(letters, &claimed, Some(middle), &tables, FILLS[1]);
-}
-
 #[test]
 fn long_strings_of_each_kind() {
     let mut random = Random::new(92);
@@ -242,7 +219,7 @@ fn long_strings_of_each_kind() {
         kinds.extend(samples::bases(&mut random, n));
         for (kind, letters) in kinds {
             println!("{n} letters, {kind}");
-            check_long(&mut random, &letters);
+            check_some_entries(&mut random, &letters);
         }
     }
 }
@@ -252,7 +229,7 @@ fn strings_of_1_000_000_letters() {
     let mut random = Random::new(93);
     for (kind, letters) in samples::kinds(&mut random, MAX_LETTERS) {
         println!("{kind}");
-        check_long(&mut random, &letters);
+        check_some_entries(&mut random, &letters);
     }
 }
 

@@ -2,39 +2,16 @@
 
 mod common;
 
-use common::{assert_build, assert_questions, assert_tree_of_build, assert_word, FAST};
+use common::{assert_build, check_builds};
+use reference::definitions;
 use reference::samples::{self, Random};
-use reference::{definitions, fast};
-
-/// Builds the string whole and with `halts` random numbers of rows, and asks at random positions.
-fn check_string(random: &mut Random, letters: &[u8], halts: usize) {
-    let n = letters.len();
-    let whole = fast::structure(letters, n);
-    assert_build(letters, n, &whole);
-    assert_tree_of_build(n, &whole);
-    for position in [0, n / 2, n - 1]
-        .into_iter()
-        .chain((0..5).map(|_| random.below(n)))
-    {
-        let word = fast::longest_word(letters, position);
-        assert_eq!(word.len(), whole.tables.next[position] as usize - position);
-        assert_word(letters, position, word);
-        assert_questions(n, &whole.tree, position, FAST);
-    }
-    for _ in 0..halts {
-        let rows = random.below(n);
-        let halted = fast::structure(letters, rows);
-        assert_build(letters, rows, &halted);
-        assert_tree_of_build(n, &halted);
-    }
-}
 
 fn check_kinds(seed: u64, lengths: &[usize], halts: usize) {
     let mut random = Random::new(seed);
     for &n in lengths {
         let kinds = samples::kinds(&mut random, n).into_iter();
         for (_, letters) in kinds.chain(samples::bases(&mut random, n)) {
-            check_string(&mut random, &letters, halts);
+            check_builds(&mut random, &letters, halts);
         }
     }
 }
@@ -61,7 +38,7 @@ fn random_strings_of_random_lengths_and_alphabets() {
         let n = 1 + random.below(2_000);
         let size = 1 + random.below(256);
         let letters = samples::random_string(&mut random, n, size);
-        check_string(&mut random, &letters, 3);
+        check_builds(&mut random, &letters, 3);
     }
 }
 
@@ -72,7 +49,7 @@ fn random_words_repeated() {
         let n = 1 + random.below(2_000);
         let (length, size) = (1 + random.below(20), 1 + random.below(3));
         let word = samples::random_string(&mut random, length, size);
-        check_string(&mut random, &samples::repeated(&word, n), 3);
+        check_builds(&mut random, &samples::repeated(&word, n), 3);
     }
 }
 
@@ -81,7 +58,7 @@ fn random_words_repeated_in_mixed_case() {
     let mut random = Random::new(18);
     for _ in 0..500 {
         let letters = samples::word_repeated_in_random_case(&mut random);
-        check_string(&mut random, &letters, 3);
+        check_builds(&mut random, &letters, 3);
     }
 }
 

@@ -4,47 +4,26 @@
 
 mod common;
 
-use common::{assert_build, assert_runs, assert_tree_of_build, assert_word, FILLS};
+use common::{assert_word, check_by_definitions};
 use lyndon::{raw, Checked, Structure};
-use reference::ranks::rank;
+use reference::ranks::Letter;
 use reference::samples::{self, Random};
-use reference::{definitions, runs};
-
-/// Compares every answer for the string with the definitions: the build at every number of rows, the tree,
-/// the longest word at every position, and the runs.
-fn check_string(letters: &[u8]) {
-    let n = letters.len();
-    for rows in 0..=n {
-        let expected = definitions::build(letters, rows);
-        assert_build(letters, rows, &expected);
-        assert_tree_of_build(n, &expected);
-    }
-    for position in 0..n {
-        assert_word(
-            letters,
-            position,
-            definitions::longest_word(letters, position),
-        );
-    }
-    let expected = runs::by_definition(letters);
-    assert_runs(letters, n, &expected, FILLS[n % 2]);
-}
 
 /// Byte 95 is above the capitals and below the small letters, so the two orders differ by it too.
 #[test]
 fn every_string_of_small_letters_capitals_and_byte_95() {
     for n in 0..=7 {
         for letters in samples::strings_over(b"AaBb_", n) {
-            check_string(&letters);
+            check_by_definitions(&letters);
         }
     }
 }
 
 #[test]
 fn every_pair_of_bytes() {
-    for left in 0..=255 {
+    for left in 0..=255_u8 {
         for right in 0..=255 {
-            check_string(&[left, right]);
+            check_by_definitions(&[left, right]);
         }
     }
 }
@@ -55,7 +34,7 @@ fn letters_compare_by_their_ranks() {
     for left in 0..=255_u8 {
         for right in 0..=255_u8 {
             let pair = Structure::of(&[left, right]).expect("two letters");
-            let (left_rank, right_rank) = (rank(left), rank(right));
+            let (left_rank, right_rank) = (left.rank(), right.rank());
             let equal = left_rank == right_rank;
             assert_eq!(
                 (pair.built.equal, pair.built.unequal),

@@ -1,5 +1,6 @@
-//! Every refusal and every pair of refusals of every operation but the cabinet's two: the lowest number
-//! is returned, all other figures are 0, and nothing is written, but for the work tables by 13.
+//! Every refusal and every pair of refusals of every operation but the cabinet's two, of letters and of
+//! symbols: the lowest number is returned, all other figures are 0, and nothing is written, but for the work
+//! tables by 13.
 
 mod common;
 
@@ -7,11 +8,11 @@ use std::collections::BTreeSet;
 
 use common::{
     assert_build, assert_read, assert_read_refused, assert_runs, assert_runs_refused, assert_word,
-    Lent, FILLS, LIBRARY,
+    Lent, Letter, FILLS, LIBRARY,
 };
 use lyndon::{raw, tree_length, Built, Refusal};
 use reference::runs::{by_definition, Run};
-use reference::samples::{random_string, random_tree, Random};
+use reference::samples::{random_string, random_tree, widened, Random};
 use reference::{fast, fast_brackets, refusals};
 
 /// Numbers of letters around those where a tree takes one more byte.
@@ -50,7 +51,13 @@ fn around(length: usize) -> impl Iterator<Item = usize> + Clone {
     length.saturating_sub(1)..=length + 1
 }
 
-fn check_build(pairs: &mut Pairs, letters: &[u8], tables: [usize; 4], tree: usize, rows: usize) {
+fn check_build<L: Letter>(
+    pairs: &mut Pairs,
+    letters: &[L],
+    tables: [usize; 4],
+    tree: usize,
+    rows: usize,
+) {
     let applying = refusals::of_build(letters.len(), tables, tree, rows);
     pairs.add(&applying);
     let Err(number) = refusals::first(&applying) else {
@@ -74,12 +81,12 @@ fn check_build(pairs: &mut Pairs, letters: &[u8], tables: [usize; 4], tree: usiz
     }
 }
 
-#[test]
-fn builds() {
+/// Builds of bytes taken as letters of either width.
+fn check_builds<L: Letter>(letters_of: fn(&[u8]) -> Vec<L>) {
     let mut random = Random::new(31);
     let mut pairs = Pairs::default();
     for n in SMALL {
-        let letters = random_string(&mut random, n, 2);
+        let letters = letters_of(&random_string(&mut random, n, 2));
         for previous in around(n) {
             for next in around(n) {
                 for previous_match in around(n) {
@@ -105,7 +112,7 @@ fn builds() {
         }
     }
     for n in [LIMIT, LIMIT + 1] {
-        let letters = random_string(&mut random, n, 4);
+        let letters = letters_of(&random_string(&mut random, n, 4));
         for tables in [[n; 4], [n, n, n, n - 1]] {
             for tree in [tree_length(n), tree_length(n) + 1] {
                 for rows in [n, n + 1] {
@@ -115,6 +122,16 @@ fn builds() {
         }
     }
     pairs.assert_all_of(&[1, 2, 3, 4]);
+}
+
+#[test]
+fn builds() {
+    check_builds(<[u8]>::to_vec);
+}
+
+#[test]
+fn builds_of_symbols() {
+    check_builds(widened);
 }
 
 /// Bytes for a tree of `n` positions: balanced, closed too early and left open; with and without the
@@ -232,12 +249,12 @@ fn questions() {
     pairs.assert_all_of(&[1, 3, 5, 6, 7, 8]);
 }
 
-#[test]
-fn words() {
+/// Longest words of bytes taken as letters of either width.
+fn check_words<L: Letter>(letters_of: fn(&[u8]) -> Vec<L>) {
     let mut random = Random::new(32);
     let mut pairs = Pairs::default();
     for n in SMALL.into_iter().chain([LIMIT, LIMIT + 1]) {
-        let letters = random_string(&mut random, n, 2);
+        let letters = letters_of(&random_string(&mut random, n, 2));
         for position in positions(n) {
             let applying = refusals::of_word(n, position);
             pairs.add(&applying);
@@ -245,12 +262,10 @@ fn words() {
                 assert_word(&letters, position, fast::longest_word(&letters, position));
                 continue;
             };
-            let word = lyndon::longest_word(&letters, position);
+            let word = L::WORD(&letters, position);
             assert_eq!(word.map_err(Refusal::number), Err(number));
-            // SAFETY: the pointer comes from a slice with its length.
-            let reply = unsafe { raw::lyndon_word(letters.as_ptr(), n, position) };
             assert_eq!(
-                reply,
+                L::WORD_RAW(&letters, position),
                 raw::PartReply {
                     refusal: number,
                     start: 0,
@@ -262,10 +277,20 @@ fn words() {
     pairs.assert_all_of(&[1, 5]);
 }
 
+#[test]
+fn words() {
+    check_words(<[u8]>::to_vec);
+}
+
+#[test]
+fn words_of_symbols() {
+    check_words(widened);
+}
+
 /// The report of these runs, over lists and work tables of these lengths.
-fn check_runs(
+fn check_report<L: Letter>(
     pairs: &mut Pairs,
-    letters: &[u8],
+    letters: &[L],
     expected: &[Run],
     lists: [usize; 3],
     work: [usize; 6],
@@ -294,14 +319,15 @@ fn lengths_around<const K: usize>(length: usize) -> impl Iterator<Item = [usize;
     })
 }
 
-#[test]
-fn runs() {
+/// Reports of the runs of bytes taken as letters of either width.
+fn check_reports<L: Letter>(letters_of: fn(&[u8]) -> Vec<L>) {
     let mut pairs = Pairs::default();
     for letters in [&b""[..], b"a", b"banana", b"aabaab"] {
+        let letters = &letters_of(letters);
         let expected = by_definition(letters);
         for work in lengths_around(letters.len()) {
             for lists in lengths_around(expected.len()) {
-                check_runs(&mut pairs, letters, &expected, lists, work);
+                check_report(&mut pairs, letters, &expected, lists, work);
             }
         }
         // Lengths that some other measure of the string would give.
@@ -310,17 +336,17 @@ fn runs() {
             for k in 0..6 {
                 let mut work = [n; 6];
                 work[k] = wrong;
-                check_runs(&mut pairs, letters, &expected, [n; 3], work);
+                check_report(&mut pairs, letters, &expected, [n; 3], work);
             }
             for k in 0..3 {
                 let mut lists = [n; 3];
                 lists[k] = wrong;
-                check_runs(&mut pairs, letters, &expected, lists, [n; 6]);
+                check_report(&mut pairs, letters, &expected, lists, [n; 6]);
             }
         }
     }
     for n in [LIMIT, LIMIT + 1] {
-        let letters = vec![b'a'; n];
+        let letters = letters_of(&vec![b'a'; n]);
         let whole = Run {
             start: 0,
             period: 1,
@@ -328,11 +354,21 @@ fn runs() {
         };
         for lists in [[1; 3], [0; 3], [1, 1, 2], [0, 0, 1]] {
             for work in [[n; 6], [n, n, n, n, n, n - 1]] {
-                check_runs(&mut pairs, &letters, &[whole], lists, work);
+                check_report(&mut pairs, &letters, &[whole], lists, work);
             }
         }
     }
     pairs.assert_all_of(&[1, 2, 12, 13]);
+}
+
+#[test]
+fn runs() {
+    check_reports(<[u8]>::to_vec);
+}
+
+#[test]
+fn runs_of_symbols() {
+    check_reports(widened);
 }
 
 #[test]

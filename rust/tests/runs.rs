@@ -3,33 +3,16 @@
 
 mod common;
 
-use common::{assert_list, assert_runs, assert_runs_refused, Guarded, FILLS};
+use common::{assert_list, check_runs, Guarded, Letter, FILLS};
 use lyndon::{runs_into, runs_work_length, Refusal, MAX_LETTERS};
-use reference::runs::{by_definition, by_periods, lists, Run};
+use reference::runs::{by_definition, by_periods, lists};
 use reference::samples::{self, Random};
 use reference::{fast_runs, refusals};
-
-/// Asserts that lists with one entry too few are refused, and that the runs are reported in lists with
-/// just enough entries, with one more, and with one fewer than letters.
-fn check_string(letters: &[u8], expected: &[Run]) {
-    let (n, number) = (letters.len(), expected.len());
-    assert!(number < n.max(1), "fewer runs than letters");
-    for (k, entries) in [number, number + 1, n.saturating_sub(1)]
-        .into_iter()
-        .enumerate()
-    {
-        assert_runs(letters, entries, expected, FILLS[k % 2]);
-    }
-    if number > 0 {
-        let fill = FILLS[number % 2];
-        assert_runs_refused(letters, [number - 1; 3], [n; 6], 13, fill);
-    }
-}
 
 fn check_every_string(alphabet: &[u8], longest: usize) {
     for n in 0..=longest {
         for letters in samples::strings_over(alphabet, n) {
-            check_string(&letters, &by_definition(&letters));
+            check_runs(&letters, &by_definition(&letters));
         }
     }
 }
@@ -69,7 +52,7 @@ fn strings(random: &mut Random, n: usize) -> Vec<(&'static str, Vec<u8>)> {
 fn strings_of_100_letters_by_the_definition() {
     for (kind, letters) in strings(&mut Random::new(51), 100) {
         println!("{kind}");
-        check_string(&letters, &by_definition(&letters));
+        check_runs(&letters, &by_definition(&letters));
     }
 }
 
@@ -79,7 +62,7 @@ fn strings_of_about_10_000_letters_period_by_period() {
     for n in [9_999, 15_000] {
         for (kind, letters) in strings(&mut random, n) {
             println!("{n} letters, {kind}");
-            check_string(&letters, &by_periods(&letters));
+            check_runs(&letters, &by_periods(&letters));
         }
     }
 }
@@ -90,7 +73,7 @@ fn strings_of_about_100_000_letters() {
     for n in [99_991, 100_000] {
         for (kind, letters) in strings(&mut random, n) {
             println!("{n} letters, {kind}");
-            check_string(&letters, &fast_runs::runs(&letters));
+            check_runs(&letters, &fast_runs::runs(&letters));
         }
     }
 }
@@ -99,7 +82,7 @@ fn strings_of_about_100_000_letters() {
 fn strings_of_1_000_000_letters() {
     for (kind, letters) in strings(&mut Random::new(54), MAX_LETTERS) {
         println!("{kind}");
-        check_string(&letters, &fast_runs::runs(&letters));
+        check_runs(&letters, &fast_runs::runs(&letters));
     }
 }
 
@@ -109,7 +92,7 @@ fn random_strings_of_random_lengths_and_alphabets() {
     for _ in 0..500 {
         let (n, size) = (1 + random.below(2_000), 1 + random.below(256));
         let letters = samples::random_string(&mut random, n, size);
-        check_string(&letters, &fast_runs::runs(&letters));
+        check_runs(&letters, &fast_runs::runs(&letters));
     }
 }
 
@@ -121,7 +104,7 @@ fn random_words_repeated() {
         let (length, size) = (1 + random.below(20), 1 + random.below(3));
         let word = samples::random_string(&mut random, length, size);
         let letters = samples::repeated(&word, n);
-        check_string(&letters, &fast_runs::runs(&letters));
+        check_runs(&letters, &fast_runs::runs(&letters));
     }
 }
 
@@ -130,7 +113,7 @@ fn random_words_repeated_in_mixed_case() {
     let mut random = Random::new(58);
     for _ in 0..500 {
         let letters = samples::word_repeated_in_random_case(&mut random);
-        check_string(&letters, &fast_runs::runs(&letters));
+        check_runs(&letters, &fast_runs::runs(&letters));
     }
 }
 
@@ -194,7 +177,7 @@ fn work_tables_may_hold_anything() {
 }
 
 /// Asks the wrapper for the runs in lists and work memory of these lengths.
-fn check_runs_into(letters: &[u8], entries: [usize; 3], work_length: usize) {
+fn check_runs_into<L: Letter>(letters: &[L], entries: [usize; 3], work_length: usize) {
     let n = letters.len();
     let used = runs_work_length(n);
     let expected = by_definition(letters);
@@ -205,7 +188,7 @@ fn check_runs_into(letters: &[u8], entries: [usize; 3], work_length: usize) {
         let mut work = Guarded::new(work_length, fill);
         let before: Vec<u32> = work.contents().to_vec();
         let [starts, ends, periods] = lent.each_mut().map(Guarded::lent);
-        let answer = runs_into(letters, starts, ends, periods, work.lent());
+        let answer = L::RUNS(letters, starts, ends, periods, work.lent());
         assert_eq!(
             answer.map_err(Refusal::number),
             refused.map(|()| expected.len())
@@ -230,9 +213,10 @@ fn check_runs_into(letters: &[u8], entries: [usize; 3], work_length: usize) {
     }
 }
 
-#[test]
-fn the_wrapper_uses_as_much_work_memory_as_it_says() {
+/// The wrapper's work memory for bytes taken as letters of either width.
+fn check_work_memory<L: Letter>(letters_of: fn(&[u8]) -> Vec<L>) {
     for letters in [&b""[..], b"a", b"banana", b"aabaab", b"mississippi"] {
+        let letters = &letters_of(letters);
         let used = runs_work_length(letters.len());
         assert_eq!(used, 6 * letters.len());
         let n = letters.len();
@@ -247,5 +231,11 @@ fn the_wrapper_uses_as_much_work_memory_as_it_says() {
         check_runs_into(letters, [n; 3], 0);
         check_runs_into(letters, [n; 3], n);
     }
+}
+
+#[test]
+fn the_wrapper_uses_as_much_work_memory_as_it_says() {
+    check_work_memory(<[u8]>::to_vec);
+    check_work_memory(samples::widened);
     assert_eq!(runs_work_length(usize::MAX), usize::MAX);
 }

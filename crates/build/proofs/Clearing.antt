@@ -1,12 +1,14 @@
 -- Tables that are written row by row, and hold anything from there on: seen as cleared from there on.
 use mathlib.Core.Path.{_≡_, sym, _∙_}
+use mathlib.Core.List.{List}
 use Prim.Native.Nat.{ℕ, suc, _<_}
+use native.Mathlib.Omega.{arith}
 use lib.ListN.{length, replicate}
 use Rattle.suffix.specs.Rows.{Tables}
-use Rattle.entries.proofs.Clearing.{cleared-all, cleared-set, cleared-more, cleared-same}
+use Rattle.entries.specs.Cleared.{clearedFrom}
+use Rattle.entries.proofs.Clearing.{cleared-all, cleared-none, cleared-set, cleared-more, cleared-same}
 use Rattle.reuse.specs.Steps.{recordPrevious, recordNext}
-use Rattle.build.specs.States.{clearedTables}
-use Rattle.build.specs.Built.{tablesOf}
+use Rattle.outcome.specs.Built.{tablesOf}
 use Rattle.build.specs.States.{clearedTables}
 
 module _ (n : ℕ) (t : Tables) where
@@ -30,3 +32,10 @@ module _ (n : ℕ) (t : Tables) where
       → clearedTables n 0 t ≡ tablesOf (replicate n n) (replicate n n) (replicate n 0) (replicate n 0)
   all-cleared a b c d =
       rw (cleared-all n (t .previous), cleared-all n (t .next), cleared-all 0 (t .previousMatch), cleared-all 0 (t .nextMatch), a, b, c, d)
+
+-- no place is left to clear
+pub none-left : (n : ℕ) (t : Tables) → length (t .previous) ≡ n → length (t .next) ≡ n → length (t .previousMatch) ≡ n → length (t .nextMatch) ≡ n → clearedTables n n t ≡ t
+none-left n t a b c d = rw (past (t .previous) n a, past (t .next) n b, past (t .previousMatch) 0 c, past (t .nextMatch) 0 d)
+  where
+    past : (l : List ℕ) (v : ℕ) → length l ≡ n → clearedFrom n v l ≡ l
+    past l v e = cleared-none n v l (omega arith)

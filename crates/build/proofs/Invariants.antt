@@ -27,8 +27,7 @@ use Rattle.reuse.proofs.Exact.{rows-done}
 use Rattle.build.specs.declared.State.{State}
 use Rattle.build.specs.declared.SettledPair as declared
 use Rattle.build.specs.States.{progressOf, pairOf, clearedTables, buildState, Safe, settledFrom}
-use Rattle.build.specs.Built.{tablesOf}
-use Rattle.build.specs.States.{progressOf, pairOf, clearedTables, buildState, Safe, settledFrom}
+use Rattle.outcome.specs.Built.{tablesOf}
 use Rattle.entries.specs.Cleared.{clearedFrom}
 use Rattle.entries.proofs.Clearing.{cleared-length, cleared-get}
 use Rattle.build.proofs.Clearing.{next-recorded, row-recorded, previous-none, all-cleared}

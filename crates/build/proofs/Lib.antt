@@ -1,5 +1,3 @@
-pub mod Alone
-pub mod Answers
 pub mod Clearing
 pub mod Parts
 pub mod Invariants

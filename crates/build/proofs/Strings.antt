@@ -1,41 +1,48 @@
--- The string that the rows are of has as many ranks as there are letters, so a verdict on the letters is one on the string.
+-- The string that the rows are of, in either order: how long it is, and what a scan reads of it.
 use mathlib.Core.Path.{_≡_, sym, ap, _∙_}
+use mathlib.Core.Logic.{_≢_}
 use mathlib.Core.Bool.{Bool, true, false}
 use mathlib.Core.List.{List}
-use Prim.Native.Nat.{ℕ, _-_, _<_}
+use Prim.Native.Nat.{ℕ, _≤_, _<_}
 use native.Mathlib.Omega.{arith}
 use lib.ListN.{length, getD}
-use Rattle.suffix.specs.Ranks.{ranks, greatestRank}
-use Rattle.suffix.proofs.Ranks.{ranks-length, ranks-same, oriented-length, reversed-entry}
-use Rattle.refusal.specs.Conditions.{buildRefusal, tablesRefusal}
-use Rattle.suffix.specs.Rows.{Tables}
-use Rattle.build.specs.States.{stringOf}
-use Rattle.build.specs.Built.{Lent, refusalOf, tablesRefusalOf}
+use Rattle.suffix.specs.Ranks.{rank, ranks, stringOf, greatestRank, oriented, orientedRank}
+use Rattle.suffix.proofs.Ranks.{ranks-length, ranks-entry, oriented-length, oriented-entry}
+use Rattle.reuse.specs.Steps.{ScanReport}
+use Rattle.build.specs.States.{orientedString, Scanned}
 
-pub string-length : (reverse : Bool) (letters : List ℕ) → length (stringOf reverse letters) ≡ length letters
-string-length reverse letters = oriented-length greatestRank reverse (ranks letters) ∙ ranks-length letters
+pub string-length : (wide reverse : Bool) (letters symbols : List ℕ) → length (orientedString wide reverse letters symbols) ≡ length (stringOf wide letters symbols)
+string-length wide reverse letters symbols = oriented-length greatestRank reverse (stringOf wide letters symbols)
 
-pub refusal-is : (reverse : Bool) (letters : List ℕ) (R : ℕ) (lent : Lent) → let t = lent .tables in
-    buildRefusal (length letters) R (length (t .previous)) (length (t .next)) (length (t .previousMatch)) (length (t .nextMatch)) (length (lent .tree))
-    ≡ refusalOf (stringOf reverse letters) R lent
-unfolding refusalOf
-refusal-is reverse letters R lent =
-    let t = lent .tables in
-    ap (λ n. buildRefusal n R (length (t .previous)) (length (t .next)) (length (t .previousMatch)) (length (t .nextMatch)) (length (lent .tree)))
-    (sym (string-length reverse letters))
+-- ---- what a scan reads at place i
 
-pub tables-refusal-is : (reverse : Bool) (letters : List ℕ) (t : Tables)
-    → tablesRefusal (length letters) (length (t .previous)) (length (t .next)) (length (t .previousMatch)) (length (t .nextMatch)) ≡ tablesRefusalOf (stringOf reverse letters) t
-unfolding tablesRefusalOf
-tables-refusal-is reverse letters t =
-    ap (λ n. tablesRefusal n (length (t .previous)) (length (t .next)) (length (t .previousMatch)) (length (t .nextMatch))) (sym (string-length reverse letters))
+-- other ranks are other ones in the reverse order too
+pub oriented-other : (reverse : Bool) (a b : ℕ) → a ≤ greatestRank → b ≤ greatestRank → a ≢ b → orientedRank reverse a ≢ orientedRank reverse b
+oriented-other false a b h g e = e
+oriented-other true a b h g e = λ q. e (omega (arith, q))
 
--- equal letters have equal ranks
-pub string-same : (reverse : Bool) (letters : List ℕ) (i j : ℕ) → i < length letters → j < length letters → getD letters i 0 ≡ getD letters j 0
-    → getD (stringOf reverse letters) i 0 ≡ getD (stringOf reverse letters) j 0
-string-same false letters i j h g e = ranks-same letters i j h g e
-string-same true letters i j h g e =
-    let y = ranks letters in
-    let a : i < length y = omega (arith, ranks-length letters) in
-    let b : j < length y = omega (arith, ranks-length letters) in
-    reversed-entry greatestRank y i a ∙ ap (λ x. greatestRank - x) (ranks-same letters i j h g e) ∙ sym (reversed-entry greatestRank y j b)
+-- symbols are their own ranks
+module _ (reverse : Bool) (y : List ℕ) where
+  pub symbols-length : length (oriented reverse y) ≡ length y
+  symbols-length = oriented-length greatestRank reverse y
+
+  pub symbols-entry : (i : ℕ) → i < length y → orientedRank reverse (getD y i 0) ≡ getD (oriented reverse y) i 0
+  symbols-entry i h = sym (oriented-entry reverse y i h)
+
+-- and letters have theirs
+module _ (reverse : Bool) (letters : List ℕ) where
+  pub letters-length : length (oriented reverse (ranks letters)) ≡ length letters
+  letters-length = symbols-length reverse (ranks letters) ∙ ranks-length letters
+
+  pub letters-entry : (i : ℕ) → i < length letters → {a : ℕ} → a ≡ rank (getD letters i 0) → orientedRank reverse a ≡ getD (oriented reverse (ranks letters)) i 0
+  letters-entry i h e =
+      ap (orientedRank reverse) (e ∙ sym (ranks-entry letters i h)) ∙ symbols-entry reverse (ranks letters) i (omega (arith, ranks-length letters))
+
+-- ---- a scan of symbols, or of letters, is one of the string
+
+module _ (wide reverse : Bool) (letters symbols : List ℕ) {n l r m equal unequal : ℕ} {u : ScanReport} where
+  pub of-symbols : wide ≡ true → Scanned (oriented reverse symbols) n l r m equal unequal u → Scanned (orientedString wide reverse letters symbols) n l r m equal unequal u
+  of-symbols e S = rw e S
+
+  pub of-letters : wide ≡ false → Scanned (oriented reverse (ranks letters)) n l r m equal unequal u → Scanned (orientedString wide reverse letters symbols) n l r m equal unequal u
+  of-letters e S = rw e S

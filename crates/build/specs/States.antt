@@ -1,20 +1,22 @@
 -- What the contracts of the private functions are written with: the code's values as those of the reuse steps.
+use mathlib.Core.Path.{_≡_}
 use mathlib.Core.Bool.{Bool, true, false}
 use mathlib.Core.List.{List}
-use Prim.Native.Nat.{ℕ, _+_, _≤_, _<_}
-use lib.Dec.{eqb}
-use Rattle.suffix.specs.Ranks.{ranks, oriented}
+use Prim.Native.Nat.{ℕ, _+_, _-_, _≤_, _<_}
+use lib.Dec.{ltb}
+use lib.ListN.{length}
+use Rattle.suffix.specs.Ranks.{stringOf, oriented}
 use Rattle.suffix.specs.Rows.{Tables}
 use Rattle.entries.specs.Cleared.{clearedFrom}
-use Rattle.reuse.specs.Steps.{Progress, BuildState, ScanReport, SettledPair, settle}
+use Rattle.reuse.specs.Steps.{Progress, BuildState, ScanReport, SettledPair, scan, settle}
 use Rattle.build.specs.declared.State.{State}
 use Rattle.build.specs.declared.ScanReport as declaredReport
 use Rattle.build.specs.declared.SettledPair as declared
-use Rattle.build.specs.Built.{tablesOf, Figures, finished, halted}
+use Rattle.outcome.specs.Built.{tablesOf}
 
--- the string that the rows are of: the ranks of the letters, in their order or in its reverse
-abbrev pub stringOf : (reverse : Bool) → List ℕ → List ℕ
-stringOf reverse letters = oriented reverse (ranks letters)
+-- the string that the rows are of, in the order of its ranks or in its reverse
+abbrev pub orientedString : (wide reverse : Bool) → (letters symbols : List ℕ) → List ℕ
+orientedString wide reverse letters symbols = oriented reverse (stringOf wide letters symbols)
 
 abbrev pub progressOf : State → Progress
 progressOf s = record { reach = s .reach; shift = s .shift; equal = s .equal; unequal = s .unequal }
@@ -25,19 +27,23 @@ reportOf u = record { match = u .matched; leftSmaller = u .«left_smaller»; equ
 abbrev pub pairOf : declared.SettledPair → SettledPair
 pairOf u = record { progress = progressOf (u .state); match = u .matched; leftSmaller = u .«left_smaller» }
 
--- tables for n letters with none and match 0 for every position from k on
+-- what a scan reports that stops at these ranks, which are unequal
+abbrev pub unequalAt : (a b m equal unequal : ℕ) → ScanReport
+unequalAt a b m equal unequal = record { match = m; leftSmaller = ltb a b; equal = equal; unequal = unequal + 1 }
+
+-- what a scan of (l, r) from m reports, in a string of n letters or symbols
+pub record Scanned (y : List ℕ) (n l r m equal unequal : ℕ) (u : ScanReport) : Type 0 where
+  pub reports : u ≡ scan y l r m (length y - (r + m)) equal unequal
+  pub fits : r + u .match ≤ n
+
+-- tables for n letters or symbols with none and match 0 for every position from k on
 abbrev pub clearedTables : ℕ → ℕ → Tables → Tables
 clearedTables n k t = tablesOf (clearedFrom k n (t .previous)) (clearedFrom k n (t .next)) (clearedFrom k 0 (t .previousMatch)) (clearedFrom k 0 (t .nextMatch))
 
 abbrev pub buildState : State → Tables → BuildState
 buildState s t = record { progress = progressOf s; tables = t }
 
--- the figures of a build of n letters that ends in this state
-abbrev pub figuresAt : ℕ → State → Figures
-figuresAt n s =
-    elim (eqb (s .rows) n) [ true ↦ finished (s .rows) (s .equal) (s .unequal) (s .reach) | false ↦ halted (s .rows) (s .equal) (s .unequal) (s .reach) ]
-
--- what is asked where (l, r) is settled from m, in a string of n letters: each place is in the string, and the counts fit
+-- what is asked where (l, r) is settled from m, in a string of n letters or symbols: each place is in the string, and the counts fit
 pub record Safe (n : ℕ) (s : Progress) (l r m : ℕ) : Type 0 where
   pub before : l < r
   pub small : r < n

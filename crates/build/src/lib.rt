@@ -1,17 +1,22 @@
-// The build: from a string to four tables and a tree, in a given number of rows; and to the four tables alone, in either order.
+// The build: from a string to four tables and a tree, in a given number of rows; and to the four tables alone, in either order. A string is of
+// letters, or where `wide` is true of symbols; the slice that it is not of is not read.
 ghost use mathlib.Core.Path.{_≡_};
 ghost use mathlib.Core.Bool.{false};
 ghost use mathlib.Core.List.{[]};
 ghost use Prim.Native.Nat.{_+_, _-_, _/_, _%_, _^_, _≤_, _<_};
 ghost use lib.ListN.{length, getD, set, take, replicate};
-ghost use Rattle.suffix.specs.Ranks.{ranks, oriented};
+ghost use Rattle.suffix.specs.Ranks.{ranks, stringOf, oriented, orientedRank};
 ghost use Rattle.suffix.specs.Tree.{treeLength, treeBytes};
-ghost use Rattle.reuse.specs.Steps.{scan as stepScan, scanned, afterRows};
-ghost use Rattle.build.specs.States.{stringOf, progressOf, reportOf, pairOf, clearedTables, buildState, figuresAt, Safe, settledFrom};
-ghost use Rattle.build.specs.Built.{tablesOf, lent, figuresOf, BuiltExactly, TablesBuilt};
-use entries::clear_from;
-use refusal::Refusal;
+ghost use Rattle.reuse.specs.Steps.{scanned, afterRows};
+ghost use Rattle.outcome.specs.Built.{tablesOf, lent, figuresOf, BuiltExactly, TablesBuilt};
+ghost use Rattle.build.specs.States.{orientedString, progressOf, reportOf, pairOf, unequalAt, Scanned, clearedTables, buildState, Safe, settledFrom};
+use entries::clear_bytes;
+use entries::clear_tables;
+use outcome::Built;
+use outcome::answer;
 use refusal::Verdict;
+use suffix::orient;
+use suffix::rank;
 
 // The state of a build: reach c, shift d, the rows that are recorded, and the comparisons made that found two letters equal,
 // and unequal.
@@ -38,22 +43,8 @@ struct SettledPair {
     left_smaller: bool,
 }
 
-// The figures of a build that is not refused.
-pub struct Report {
-    pub rows: usize,
-    pub equal: usize,
-    pub unequal: usize,
-    pub reach: usize,
-}
-
-pub enum Built {
-    Finished(Report),
-    Halted(Report),
-    Refused(Refusal),
-}
-
 // An entry as an index.
-fn wide(x: u32) -> usize
+fn index(x: u32) -> usize
     ensures { λ r. ⌜ (r ≡ x) × (r < 4294967296) ⌝ }
 {
     x as usize
@@ -63,19 +54,7 @@ fn read(table: &[u32], i: usize) -> usize
     requires { ⌜ i < length (now table) ⌝ }
     ensures { λ r. ⌜ (r ≡ getD (now (table .entry)) i 0) × (r < 4294967296) ⌝ }
 {
-    wide(table[i])
-}
-
-// The rank of the letter at i, in the order of the letters or in its reverse.
-fn rank_at(letters: &[u8], reverse: bool, i: usize) -> u32
-    requires { ⌜ i < length (now letters) ⌝ }
-    ensures { λ r. ⌜ r ≡ getD (stringOf reverse (now (letters .entry))) i 0 ⌝ }
-{
-    let rank = suffix::rank(letters[i]);
-    if reverse {
-        return 4294967295 - rank;
-    }
-    rank
+    index(table[i])
 }
 
 // table[i] = value with match m.
@@ -87,36 +66,47 @@ fn record_entry(table: &mut [u32], matches: &mut [u32], i: usize, value: usize, 
     matches[i] = m as u32;
 }
 
-// Step 1: compares the letters at l + m and r + m, raising m while they are equal. `equal` and `unequal` count the comparisons made so far.
-fn scan(
+// What a scan reports that stops at unequal ranks.
+fn differs(a: u32, b: u32, reverse: bool, m: usize, equal: usize, unequal: usize) -> ScanReport
+    requires { ⌜ unequal ≤ 2000000 ⌝ }
+    ensures { λ u. ⌜ reportOf u ≡ unequalAt (orientedRank reverse a) (orientedRank reverse b) m equal unequal ⌝ }
+{
+    let left = orient(a, reverse);
+    let right = orient(b, reverse);
+    ScanReport {
+        matched: m,
+        left_smaller: left < right,
+        equal,
+        unequal: unequal + 1,
+    }
+}
+
+// Step 1 for a string of n letters: compares those at l + m and r + m, raising m while they are equal. `equal` and `unequal` count the comparisons
+// made so far.
+fn scan_letters(
     letters: &[u8],
     reverse: bool,
+    n: usize,
     l: usize,
     r: usize,
     from: usize,
     equal: usize,
     unequal: usize,
 ) -> ScanReport
-    requires { ⌜ (l < r) × (r + from ≤ length (now letters)) × (length (now letters) ≤ 1000000) × (equal ≤ 1000000) × (unequal ≤ 2000000) ⌝ }
-    ensures { λ u. ⌜ reportOf u ≡ stepScan (stringOf reverse (now (letters .entry))) l r from (length (stringOf reverse (now (letters .entry))) - (r + from)) equal unequal ⌝ }
-    ensures { λ u. ⌜ r + u .matched ≤ length (now (letters .entry)) ⌝ }
+    requires { ⌜ (length (now letters) ≡ n) × (n ≤ 1000000) × (l < r) × (r + from ≤ n) × (equal ≤ 1000000) × (unequal ≤ 2000000) ⌝ }
+    ensures { λ u. ⌜ Scanned (oriented reverse (ranks (now (letters .entry)))) n l r from equal unequal (reportOf u) ⌝ }
 {
     let mut m = from;
     let mut equals = equal;
-    while r + m < letters.len() {
+    while r + m < n {
         let x = letters[l + m];
         let y = letters[r + m];
         // equal letters have equal ranks
         if x != y {
-            let a = rank_at(letters, reverse, l + m);
-            let b = rank_at(letters, reverse, r + m);
+            let a = rank(x);
+            let b = rank(y);
             if a != b {
-                return ScanReport {
-                    matched: m,
-                    left_smaller: a < b,
-                    equal: equals,
-                    unequal: unequal + 1,
-                };
+                return differs(a, b, reverse, m, equals, unequal);
             }
         }
         equals += 1;
@@ -130,6 +120,70 @@ fn scan(
         equal: equals,
         unequal,
     }
+}
+
+// The same of symbols, which are their own ranks. The first comparison, at which scans of varied symbols stop, stands before the loop.
+fn scan_symbols(
+    symbols: &[u32],
+    reverse: bool,
+    n: usize,
+    l: usize,
+    r: usize,
+    from: usize,
+    equal: usize,
+    unequal: usize,
+) -> ScanReport
+    requires { ⌜ (length (now symbols) ≡ n) × (n ≤ 1000000) × (l < r) × (r + from ≤ n) × (equal ≤ 1000000) × (unequal ≤ 2000000) ⌝ }
+    ensures { λ u. ⌜ Scanned (oriented reverse (now (symbols .entry))) n l r from equal unequal (reportOf u) ⌝ }
+{
+    let mut m = from;
+    let mut alike = equal;
+    if r + m < n {
+        let first = symbols[l + m];
+        let other = symbols[r + m];
+        if first != other {
+            return differs(first, other, reverse, m, alike, unequal);
+        }
+        alike += 1;
+        m += 1;
+    }
+    while r + m < n {
+        let x = symbols[l + m];
+        let y = symbols[r + m];
+        if x != y {
+            return differs(x, y, reverse, m, alike, unequal);
+        }
+        alike += 1;
+        m += 1;
+    }
+    ScanReport {
+        matched: m,
+        left_smaller: false,
+        equal: alike,
+        unequal,
+    }
+}
+
+// The scan of a string of either width: in the rows the two are told apart here alone.
+fn scan(
+    letters: &[u8],
+    symbols: &[u32],
+    wide: bool,
+    reverse: bool,
+    n: usize,
+    l: usize,
+    r: usize,
+    from: usize,
+    equal: usize,
+    unequal: usize,
+) -> ScanReport
+    requires { ⌜ (length (stringOf wide (now letters) (now symbols)) ≡ n) × (n ≤ 1000000) × (l < r) × (r + from ≤ n) × (equal ≤ 1000000) × (unequal ≤ 2000000) ⌝ }
+    ensures { λ u. ⌜ Scanned (orientedString wide reverse (now (letters .entry)) (now (symbols .entry))) n l r from equal unequal (reportOf u) ⌝ }
+{
+    if wide {
+        return scan_symbols(symbols, reverse, n, l, r, from, equal, unequal);
+    }
+    scan_letters(letters, reverse, n, l, r, from, equal, unequal)
 }
 
 impl State {
@@ -155,7 +209,10 @@ impl State {
     fn settle(
         self,
         letters: &[u8],
+        symbols: &[u32],
+        wide: bool,
         reverse: bool,
+        n: usize,
         next: &[u32],
         previous_match: &[u32],
         next_match: &[u32],
@@ -164,12 +221,12 @@ impl State {
         m: usize,
         known: bool,
     ) -> SettledPair
-        requires { ⌜ length (now letters) ≤ 1000000 ⌝ }
-        requires { ⌜ (length (now next) ≡ length (now letters)) × (length (now «previous_match») ≡ length (now letters)) × (length (now «next_match») ≡ length (now letters)) ⌝ }
-        requires { ⌜ (known ≡ false → Safe (length (now letters)) (progressOf self) l r m) ⌝ }
+        requires { ⌜ (length (stringOf wide (now letters) (now symbols)) ≡ n) × (n ≤ 1000000) ⌝ }
+        requires { ⌜ (length (now next) ≡ n) × (length (now «previous_match») ≡ n) × (length (now «next_match») ≡ n) ⌝ }
+        requires { ⌜ (known ≡ false → Safe n (progressOf self) l r m) ⌝ }
         ensures { λ u.
             ⌜ pairOf u
-            ≡ settledFrom known (stringOf reverse (now (letters .entry))) (progressOf self)
+            ≡ settledFrom known (orientedString wide reverse (now (letters .entry)) (now (symbols .entry))) (progressOf self)
             (tablesOf [] (now (next .entry)) (now («previous_match» .entry)) (now («next_match» .entry)))
             l
             r
@@ -208,7 +265,18 @@ impl State {
             }
             from = self.reach - r;
         }
-        let report = scan(letters, reverse, l, r, from, self.equal, self.unequal);
+        let report = scan(
+            letters,
+            symbols,
+            wide,
+            reverse,
+            n,
+            l,
+            r,
+            from,
+            self.equal,
+            self.unequal,
+        );
         self.stop(l, r, report)
     }
 }
@@ -224,11 +292,14 @@ fn set_bit(tree: &mut [u8], k: usize)
     }
 }
 
-// The first `rows` rows, over a tree that is cleared. What they have not written in the tables is left as it is. The tree may be shorter than the
-// letters ask for, or empty: it is written as far as it goes.
+// The first `rows` rows of a string of n letters or symbols, over a tree that is cleared. What they have not written in the tables is left as it is.
+// The tree may be shorter than the string asks for, or empty: it is written as far as it goes.
 fn build_rows(
     letters: &[u8],
+    symbols: &[u32],
+    wide: bool,
     reverse: bool,
+    n: usize,
     rows: usize,
     previous: &mut [u32],
     next: &mut [u32],
@@ -236,14 +307,14 @@ fn build_rows(
     next_match: &mut [u32],
     tree: &mut [u8],
 ) -> State
-    requires { ⌜ (length (now letters) ≤ 1000000) × (rows ≤ length (now letters)) ⌝ }
-    requires { ⌜ (length (now previous) ≡ length (now letters)) × (length (now next) ≡ length (now letters)) × (length (now «previous_match») ≡ length (now letters)) × (length (now «next_match») ≡ length (now letters)) ⌝ }
-    requires { ⌜ (length (now tree) ≤ treeLength (length (now letters))) × (now tree ≡ replicate (length (now tree)) 0) ⌝ }
+    requires { ⌜ (length (stringOf wide (now letters) (now symbols)) ≡ n) × (n ≤ 1000000) × (rows ≤ n) ⌝ }
+    requires { ⌜ (length (now previous) ≡ n) × (length (now next) ≡ n) × (length (now «previous_match») ≡ n) × (length (now «next_match») ≡ n) ⌝ }
+    requires { ⌜ (length (now tree) ≤ treeLength n) × (now tree ≡ replicate (length (now tree)) 0) ⌝ }
     ensures { λ s.
         ⌜ buildState s
-        (clearedTables (length (now (letters .entry))) rows (tablesOf (now (previous .exit)) (now (next .exit)) (now («previous_match» .exit)) (now («next_match» .exit))))
-        ≡ afterRows (stringOf reverse (now (letters .entry))) rows ⌝ }
-    ensures { λ s. ⌜ now (tree .exit) ≡ take (length (now (tree .entry))) (treeBytes (stringOf reverse (now (letters .entry))) rows) ⌝ }
+        (clearedTables n rows (tablesOf (now (previous .exit)) (now (next .exit)) (now («previous_match» .exit)) (now («next_match» .exit))))
+        ≡ afterRows (orientedString wide reverse (now (letters .entry)) (now (symbols .entry))) rows ⌝ }
+    ensures { λ s. ⌜ now (tree .exit) ≡ take (length (now (tree .entry))) (treeBytes (orientedString wide reverse (now (letters .entry)) (now (symbols .entry))) rows) ⌝ }
     ensures { λ s. ⌜ s .rows ≡ rows ⌝ }
 {
     if rows == 0 {
@@ -255,7 +326,6 @@ fn build_rows(
             unequal: 0,
         };
     }
-    let n = letters.len();
     let mut state = State {
         reach: 1,
         shift: 0,
@@ -275,7 +345,7 @@ fn build_rows(
         record_entry(previous, previous_match, r - 1, p, v);
         // none until a later row settles it
         record_entry(next, next_match, r - 1, n, 0);
-        if rows <= r {
+        if rows == r {
             break 'rows;
         }
         let mut l = r - 1;
@@ -284,7 +354,10 @@ fn build_rows(
         'walk: loop {
             let pair = state.settle(
                 letters,
+                symbols,
+                wide,
                 reverse,
+                n,
                 next,
                 previous_match,
                 next_match,
@@ -318,57 +391,11 @@ fn build_rows(
     state
 }
 
-// None and match 0 for the positions of which the row is not done.
-fn clear_tables(
-    n: usize,
-    rows: usize,
-    previous: &mut [u32],
-    next: &mut [u32],
-    previous_match: &mut [u32],
-    next_match: &mut [u32],
-)
-    requires { ⌜ (n ≤ 1000000) × (rows ≤ n) ⌝ }
-    requires { ⌜ (length (now previous) ≡ n) × (length (now next) ≡ n) × (length (now «previous_match») ≡ n) × (length (now «next_match») ≡ n) ⌝ }
-    ensures { λ _.
-        ⌜ tablesOf (now (previous .exit)) (now (next .exit)) (now («previous_match» .exit)) (now («next_match» .exit))
-        ≡ clearedTables n rows (tablesOf (now (previous .entry)) (now (next .entry)) (now («previous_match» .entry)) (now («next_match» .entry))) ⌝ }
-{
-    let none = n as u32;
-    clear_from(previous, rows, none);
-    clear_from(next, rows, none);
-    clear_from(previous_match, rows, 0);
-    clear_from(next_match, rows, 0);
-}
-
-fn clear_tree(tree: &mut [u8])
-    ensures { λ _. ⌜ now (tree .exit) ≡ replicate (length (now (tree .entry))) 0 ⌝ }
-{
-    let mut i = 0;
-    while i < tree.len() {
-        tree[i] = 0;
-        i += 1;
-    }
-}
-
-// The answer of a build of n letters that is not refused.
-fn answer(state: State, n: usize) -> Built
-    ensures { λ r. ⌜ figuresOf r ≡ figuresAt n state ⌝ }
-{
-    let report = Report {
-        rows: state.rows,
-        equal: state.equal,
-        unequal: state.unequal,
-        reach: state.reach,
-    };
-    if state.rows == n {
-        return Built::Finished(report);
-    }
-    Built::Halted(report)
-}
-
-// Builds the four tables and the tree of the letters, as they are after `rows` rows. A refusal writes nothing.
+// Builds the four tables and the tree of a string, as they are after `rows` rows. A refusal writes nothing.
 pub fn build(
     letters: &[u8],
+    symbols: &[u32],
+    wide: bool,
     rows: usize,
     previous: &mut [u32],
     next: &mut [u32],
@@ -377,12 +404,12 @@ pub fn build(
     tree: &mut [u8],
 ) -> Built
     ensures { λ r.
-        ⌜ BuiltExactly (ranks (now (letters .entry))) rows
+        ⌜ BuiltExactly (stringOf wide (now (letters .entry)) (now (symbols .entry))) rows
         (lent (now (previous .entry)) (now (next .entry)) (now («previous_match» .entry)) (now («next_match» .entry)) (now (tree .entry)))
         (lent (now (previous .exit)) (now (next .exit)) (now («previous_match» .exit)) (now («next_match» .exit)) (now (tree .exit)))
         (figuresOf r) ⌝ }
 {
-    let n = letters.len();
+    let n = suffix::string_length(letters, symbols, wide);
     let verdict = refusal::build_verdict(
         n,
         rows,
@@ -395,10 +422,13 @@ pub fn build(
     if let Verdict::Refused(refusal) = verdict {
         return Built::Refused(refusal);
     }
-    clear_tree(tree);
+    clear_bytes(tree);
     let state = build_rows(
         letters,
+        symbols,
+        wide,
         false,
+        n,
         rows,
         previous,
         next,
@@ -406,13 +436,17 @@ pub fn build(
         next_match,
         tree,
     );
-    clear_tables(n, rows, previous, next, previous_match, next_match);
-    answer(state, n)
+    // none for the positions of which the row is not done
+    let none = n as u32;
+    clear_tables(previous, next, previous_match, next_match, rows, none);
+    answer(n, state.rows, state.equal, state.unequal, state.reach)
 }
 
-// Builds the four tables of all letters and no tree, in the order of the letters or in its reverse. A refusal writes nothing.
+// Builds the four tables of the whole string and no tree, in the order of the letters or symbols or in its reverse. A refusal writes nothing.
 pub fn build_tables(
     letters: &[u8],
+    symbols: &[u32],
+    wide: bool,
     reverse: bool,
     previous: &mut [u32],
     next: &mut [u32],
@@ -420,12 +454,12 @@ pub fn build_tables(
     next_match: &mut [u32],
 ) -> Verdict
     ensures { λ r.
-        ⌜ TablesBuilt (oriented reverse (ranks (now (letters .entry))))
+        ⌜ TablesBuilt (oriented reverse (stringOf wide (now (letters .entry)) (now (symbols .entry))))
         (tablesOf (now (previous .entry)) (now (next .entry)) (now («previous_match» .entry)) (now («next_match» .entry)))
         (tablesOf (now (previous .exit)) (now (next .exit)) (now («previous_match» .exit)) (now («next_match» .exit)))
         r ⌝ }
 {
-    let n = letters.len();
+    let n = suffix::string_length(letters, symbols, wide);
     let verdict = refusal::tables_verdict(
         n,
         previous.len(),
@@ -439,7 +473,10 @@ pub fn build_tables(
     let mut no_tree = [0u8; 0];
     build_rows(
         letters,
+        symbols,
+        wide,
         reverse,
+        n,
         n,
         previous,
         next,

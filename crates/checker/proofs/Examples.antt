@@ -9,7 +9,7 @@ use Rattle.suffix.specs.Order.{suffixLess, lexLess}
 use Rattle.suffix.specs.Nearest.{next}
 use Rattle.suffix.specs.Rows.{Tables}
 use Rattle.refusal.specs.Numbers.{firstOf, unlessRefused}
-use Rattle.build.specs.Built.{tablesOf}
+use Rattle.outcome.specs.Built.{tablesOf}
 use Rattle.checker.specs.Checked.{isWrong, leastWrong, right, wrongAt, refused, foundAt, checkRefusal, finding}
 
 -- baNana

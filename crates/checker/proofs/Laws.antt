@@ -20,8 +20,8 @@ use Rattle.refusal.specs.Numbers.{verdictNumber, firstOf, numberIf, lowest, low
 use Rattle.refusal.specs.Conditions.{tooLong, tableLengthOff, aTableLengthOff, tablesRefusal}
 use Rattle.refusal.proofs.Numbers.{first-none, nothing-found, neither, unless-taken, unless-refused}
 use Rattle.refusal.proofs.Tables.{not-off}
-use Rattle.build.specs.Built.{Lent, lentAfter, tablesRefusalOf, TablesBuilt}
-use Rattle.build.proofs.Answers.{left-built}
+use Rattle.outcome.specs.Built.{Lent, lentAfter, tablesRefusalOf, TablesBuilt}
+use Rattle.outcome.proofs.Answers.{left-built}
 use Rattle.checker.specs.Checked.{isWrong, leastWrong, Finding, right, wrongAt, refused, foundAt, checkRefusal, finding, workAtExit, CheckedExactly}
 use Rattle.checker.specs.Comparing.{differs, firstDifference, comparedWith}
 use Rattle.checker.specs.Claims.{Finds, FindsTheLeastWrong, BuiltThenChecked}

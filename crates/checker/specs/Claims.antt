@@ -7,7 +7,7 @@ use lib.ListN.{length, getD}
 use Rattle.suffix.specs.Search.{tabulate}
 use Rattle.suffix.specs.Nearest.{next}
 use Rattle.suffix.specs.Rows.{Tables}
-use Rattle.build.specs.Built.{Lent, refusalOf, lentAtExit}
+use Rattle.outcome.specs.Built.{Lent, refusalOf, lentAtExit}
 use Rattle.checker.specs.Checked.{right, wrongAt, checkRefusal, finding, workAtExit}
 
 -- "say 'right' exactly if every entry is the defined one, else give the least position whose entry is wrong"

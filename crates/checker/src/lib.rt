@@ -2,9 +2,9 @@
 ghost use mathlib.Core.Path.{_≡_};
 ghost use Prim.Native.Nat.{_≤_};
 ghost use lib.ListN.{length};
-ghost use Rattle.suffix.specs.Ranks.{ranks};
+ghost use Rattle.suffix.specs.Ranks.{stringOf};
 ghost use Rattle.refusal.specs.Numbers.{verdictNumber};
-ghost use Rattle.build.specs.Built.{tablesOf};
+ghost use Rattle.outcome.specs.Built.{tablesOf};
 ghost use Rattle.checker.specs.Checked.{findingOf, CheckedExactly};
 ghost use Rattle.checker.specs.Comparing.{firstDifference, comparedWith};
 use refusal::Refusal;
@@ -62,10 +62,12 @@ fn compared(built: Verdict, claimed: &[u32], table: &[u32]) -> Checked
     Checked::WrongAt(i)
 }
 
-// Whether a claimed table is the next table of the letters, or else the least position whose entry is wrong. The work tables are left as a
-// finished build leaves its four. A refusal writes nothing.
+// Whether a claimed table is the next table of a string, or else the least position whose entry is wrong. The string is of letters, or where `wide` is
+// true of symbols. The work tables are left as a finished build leaves its four. A refusal writes nothing.
 pub fn check(
     letters: &[u8],
+    symbols: &[u32],
+    wide: bool,
     claimed: &[u32],
     previous: &mut [u32],
     next: &mut [u32],
@@ -73,15 +75,25 @@ pub fn check(
     next_match: &mut [u32],
 ) -> Checked
     ensures { λ r.
-        ⌜ CheckedExactly (ranks (now (letters .entry))) (now (claimed .entry))
+        ⌜ CheckedExactly (stringOf wide (now (letters .entry)) (now (symbols .entry))) (now (claimed .entry))
         (tablesOf (now (previous .entry)) (now (next .entry)) (now («previous_match» .entry)) (now («next_match» .entry)))
         (tablesOf (now (previous .exit)) (now (next .exit)) (now («previous_match» .exit)) (now («next_match» .exit)))
         (findingOf r) ⌝ }
 {
+    let n = suffix::string_length(letters, symbols, wide);
     // 1 comes before 2, and the build finds it
-    if letters.len() <= 1000000 && claimed.len() != letters.len() {
+    if n <= 1000000 && claimed.len() != n {
         return Checked::Refused(Refusal::TableLength);
     }
-    let built = build::build_tables(letters, false, previous, next, previous_match, next_match);
+    let built = build::build_tables(
+        letters,
+        symbols,
+        wide,
+        false,
+        previous,
+        next,
+        previous_match,
+        next_match,
+    );
     compared(built, claimed, next)
 }

@@ -1,36 +1,35 @@
 -- From what a called function answers to what is replied.
-use mathlib.Core.Path.{_≡_, sym, ap, _∙_}
-use mathlib.Core.Logic.{_≢_}
+use mathlib.Core.Path.{_≡_, sym, ap, ap₂, _∙_}
 use mathlib.Core.List.{List}
 use Prim.Native.Nat.{ℕ}
 use lib.ListN.{length}
+use borrow.Author.Tests.{ne-eqb}
 use denote.Ref.{RefT}
+use Rattle.suffix.specs.Lyndon.{longestLyndon}
+use Rattle.suffix.proofs.Cases.{Same, same, other, same?}
 use Rattle.refusal.specs.Conditions.{wordRefusal}
 use Rattle.refusal.specs.Answers as refusal
-use Rattle.word.specs.Word.{WordAnswered}
-use Rattle.word.proofs.Laws.{part-refused, start-refused, start-taken}
+use Rattle.word.specs.Word.{wordPart, WordAnswered}
+use Rattle.word.proofs.Laws.{wordIsLongest}
 use Rattle.cabinet.specs.Answers.{EntryRead}
 use Rattle.replies.specs.declared.Reply.{Reply}
 use Rattle.replies.specs.declared.PartReply.{PartReply}
 use Rattle.replies.specs.declared.CabinetReply.{CabinetReply}
-use Rattle.replies.specs.Replies.{reply, wordReply, cabinetReply}
+use Rattle.replies.specs.Replies.{reply, partReply, wordReply, cabinetReply}
 
--- the longest word asked for at j, refused and not, and its figures
-module _ {letters part : RefT (List ℕ)} {i j number : ℕ} (e : WordAnswered letters j number part) (z : j ≡ i) where
-  number-is : number ≡ wordRefusal (length (letters .now)) i
-  number-is = e .refusal ∙ ap (wordRefusal (length (letters .now))) z
+-- the longest word asked for at j, refused and not, and its figures: y is the ranks
+module _ {bytes : ℕ} {letters part : RefT (List ℕ)} {y : List ℕ} {i j number : ℕ} (e : WordAnswered bytes letters y j number part) (z : j ≡ i) (n : length y ≡ length (letters .now)) where
+  number-is : number ≡ wordRefusal (length y) i
+  number-is = e .refusal ∙ rw (n, z)
 
-  pub word-refused : number ≢ 0 → _≡_ {A = PartReply} (record { refusal = number; start = 0; length = 0 }) (wordReply (letters .now) i)
-  word-refused q =
-      let h : wordRefusal (length (letters .now)) i ≢ 0 = λ w. q (number-is ∙ w) in
-      rw (number-is, part-refused (letters .now) i h, start-refused (letters .now) i h)
-
-  pub word-taken :
-      {start : ℕ} → start ≡ i → number ≡ 0
-      → _≡_ {A = PartReply} (record { refusal = 0; start = start; length = length (part .now) }) (wordReply (letters .now) i)
-  word-taken s q =
-      let h : wordRefusal (length (letters .now)) i ≡ 0 = sym number-is ∙ q in
-      rw (h, s, e .part, z, start-taken (letters .now) i h)
+  pub word-replied : {given : PartReply} {start : ℕ} → start ≡ i → given ≡ partReply number start (length (part .now)) → given ≡ wordReply y i
+  word-replied {start = start} s q = q ∙ go (same? number 0) ∙ ap (λ k. partReply k i (longestLyndon y i)) number-is
+    where
+      go : Same number 0 → partReply number start (length (part .now)) ≡ partReply number i (longestLyndon y i)
+      go (same w) =
+          let h : wordRefusal (length (letters .now)) i ≡ 0 = rw n at (sym number-is ∙ w) in
+          ap₂ (partReply number) s (ap length (e .part) ∙ ap (λ k. length (wordPart (letters .now) y k)) z ∙ wordIsLongest (letters .now) y i n h .1)
+      go (other w) = rw (ne-eqb number 0 w, partReply)
 
 -- entry j of a cabinet file read, and its figures
 pub entry-read :

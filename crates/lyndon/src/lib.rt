@@ -1,7 +1,7 @@
 // The exported functions: each passes its arguments on to the crate that does the work.
 ghost use mathlib.Core.Path.{_≡_};
 ghost use Rattle.suffix.specs.Ranks.{ranks};
-ghost use Rattle.build.specs.Built.{tablesOf, lent, BuiltExactly};
+ghost use Rattle.outcome.specs.Built.{tablesOf, lent, BuiltExactly};
 ghost use Rattle.checker.specs.Checked.{CheckedExactly};
 ghost use Rattle.brackets.specs.Answers.{ReadBack};
 ghost use Rattle.questions.specs.Answers.{previousAnswer, nextAnswer, placeAnswer};
@@ -17,10 +17,13 @@ use replies::PartReply;
 use replies::Reply;
 use replies::build_reply;
 use replies::check_reply;
+use replies::part_reply;
 use replies::reply_of;
 
+mod symbols;
+
 // LYNDON_VERSION of the header.
-const VERSION: u32 = 4;
+const VERSION: u32 = 5;
 
 #[no_mangle]
 pub extern "C" fn lyndon_version() -> u32
@@ -46,8 +49,11 @@ pub extern "C" fn lyndon_build(
         (lent (now (previous .exit)) (now (next .exit)) (now («previous_match» .exit)) (now («next_match» .exit)) (now (tree .exit))))
         r ⌝ }
 {
+    let no_symbols = [0u32; 0];
     build_reply(build::build(
         letters,
+        &no_symbols,
+        false,
         rows,
         previous,
         next,
@@ -90,23 +96,11 @@ pub extern "C" fn lyndon_place(n: usize, tree: &[u8], position: usize) -> Reply
 
 #[no_mangle]
 pub extern "C" fn lyndon_word(letters: &[u8], position: usize) -> PartReply
-    ensures { λ r. ⌜ r ≡ wordReply (now (letters .entry)) position ⌝ }
+    ensures { λ r. ⌜ r ≡ wordReply (ranks (now (letters .entry))) position ⌝ }
 {
     let mut refused = 0;
     let part = word::word(letters, position, &mut refused);
-    let length = part.len();
-    if refused != 0 {
-        return PartReply {
-            refusal: refused,
-            start: 0,
-            length: 0,
-        };
-    }
-    PartReply {
-        refusal: 0,
-        start: position,
-        length,
-    }
+    part_reply(refused, position, part.len())
 }
 
 #[no_mangle]
@@ -131,8 +125,11 @@ pub extern "C" fn lyndon_runs(
         (lists (now (starts .exit)) (now (ends .exit)) (now (periods .exit))))
         r ⌝ }
 {
+    let no_symbols = [0u32; 0];
     reply_of(runs::report(
         letters,
+        &no_symbols,
+        false,
         work_1,
         work_2,
         work_3,
@@ -161,7 +158,17 @@ pub extern "C" fn lyndon_check(
         (tablesOf (now (previous .exit)) (now (next .exit)) (now («previous_match» .exit)) (now («next_match» .exit))))
         r ⌝ }
 {
-    check_reply(checker::check(letters, claimed, previous, next, previous_match, next_match))
+    let no_symbols = [0u32; 0];
+    check_reply(checker::check(
+        letters,
+        &no_symbols,
+        false,
+        claimed,
+        previous,
+        next,
+        previous_match,
+        next_match,
+    ))
 }
 
 #[no_mangle]

@@ -1,13 +1,15 @@
 -- The replies of the exported functions: the figures of the answers' definitions, field by field.
 use mathlib.Core.Path.{_≡_}
+use mathlib.Core.Bool.{true, false}
 use mathlib.Core.List.{List}
 use Prim.Native.Nat.{ℕ}
+use lib.Dec.{eqb}
 use lib.ListN.{length}
+use Rattle.suffix.specs.Lyndon.{longestLyndon}
 use Rattle.refusal.specs.Conditions.{wordRefusal}
-use Rattle.build.specs.Built as build
+use Rattle.outcome.specs.Built as build
 use Rattle.checker.specs.Checked as checker
 use Rattle.refusal.specs.Answers as refusal
-use Rattle.word.specs.Word.{wordPart, wordStart}
 use Rattle.cabinet.specs.Refusals.{readRefusal}
 use Rattle.cabinet.specs.Answers.{readBody, readPlace, readLetters, readMark}
 use Rattle.replies.specs.declared.BuildReply.{BuildReply}
@@ -40,10 +42,14 @@ checkReply checker.right = record { refusal = 0; right = 1; position = 0 }
 checkReply (checker.wrongAt i) = record { refusal = 0; right = 0; position = i }
 checkReply (checker.refused number) = record { refusal = number; right = 0; position = 0 }
 
--- the longest Lyndon word: where it starts in the letters, and its length
+-- a part of a string: where it starts, and its length
+abbrev pub partReply : (refusal position length : ℕ) → PartReply
+partReply refusal position length =
+    elim (eqb refusal 0) [ true ↦ record { refusal = 0; start = position; length = length } | false ↦ record { refusal = refusal; start = 0; length = 0 } ]
+
+-- the longest Lyndon word of the string y at the position, counted in letters or symbols
 abbrev pub wordReply : List ℕ → ℕ → PartReply
-wordReply letters position =
-    record { refusal = wordRefusal (length letters) position; start = wordStart letters position; length = length (wordPart letters position) }
+wordReply y position = partReply (wordRefusal (length y) position) position (longestLyndon y position)
 
 -- reading a cabinet file: the mark met, the entry's letter count, where its body starts in the file, and the body's length
 abbrev pub cabinetReply : List ℕ → ℕ → CabinetReply

@@ -1,11 +1,11 @@
 // The replies of the exported functions, and those that carry an answer's figures.
 ghost use mathlib.Core.Path.{_≡_};
-ghost use Rattle.build.specs.Built.{figuresOf as builtFigures};
+ghost use Rattle.outcome.specs.Built.{figuresOf as builtFigures};
 ghost use Rattle.checker.specs.Checked.{findingOf};
 ghost use Rattle.refusal.specs.Answers.{figuresOf};
-ghost use Rattle.replies.specs.Replies.{buildReply, reply, checkReply};
-use build::Built;
+ghost use Rattle.replies.specs.Replies.{buildReply, reply, checkReply, partReply};
 use checker::Checked;
+use outcome::Built;
 use refusal::Answer;
 
 #[repr(C)]
@@ -112,5 +112,23 @@ pub fn check_reply(checked: Checked) -> CheckReply
             right: 0,
             position: 0,
         },
+    }
+}
+
+// A part of a string that starts at the position, unless it is refused.
+pub fn part_reply(refused: u32, position: usize, length: usize) -> PartReply
+    ensures { λ r. ⌜ r ≡ partReply refused position length ⌝ }
+{
+    if refused != 0 {
+        return PartReply {
+            refusal: refused,
+            start: 0,
+            length: 0,
+        };
+    }
+    PartReply {
+        refusal: 0,
+        start: position,
+        length,
     }
 }

@@ -17,8 +17,8 @@ use Rattle.suffix.proofs.Nearest.{next-at, next-le, next-match-is}
 use Rattle.suffix.proofs.Order.{lce-match, agree-fits}
 use Rattle.suffix.proofs.Laws.{allRowsGiveAllEntries}
 use Rattle.refusal.specs.declared.Verdict.{Verdict}
-use Rattle.build.specs.Built.{TablesBuilt}
-use Rattle.build.proofs.Alone.{Lengths, whole}
+use Rattle.outcome.specs.Built.{TablesBuilt}
+use Rattle.outcome.proofs.Alone.{Lengths, whole}
 use Rattle.repeats.specs.Runs.{Run}
 use Rattle.repeats.specs.Report.{runs, Before}
 use Rattle.repeats.specs.Roots.{AtMost}

@@ -46,7 +46,7 @@ pub record Has (t : Lists) (k : ℕ) : Type 0 where
 unfoldable pub passes : Lists → ℕ → Run → Bool
 passes t j r = ltb 0 j && before r (entryIn t (j - 1))
 
--- a place i with next j and next-match m, in a string of n letters
+-- a place i with next j and next-match m, in a string of n letters or symbols
 pub record Within (n i j m : ℕ) : Type 0 where
   pub after : i < j
   pub fits : j + m ≤ n

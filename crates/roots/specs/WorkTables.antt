@@ -17,7 +17,7 @@ use Rattle.repeats.specs.Answers.{listsOf}
 unfoldable pub workRefusal : ℕ → List ℕ → ℕ
 workRefusal n work = firstOf (numberIf (tooLong n) TooLong ∷ numberIf (workLengthOff n work) TableLength ∷ [])
 
--- the six tables with the runs l of n letters: starts, periods and ends in previous, next and previous-match, with 0 beyond, and 0 in the other
+-- the six tables with the runs l of n letters or symbols: starts, periods and ends in previous, next and previous-match, with 0 beyond, and 0 in the other
 -- three. There is room for all: FewerRunsThanLetters in repeats/specs/Claims.antt.
 unfoldable pub workWith : List Run → ℕ → List (List ℕ)
 workWith l n =

@@ -1,11 +1,13 @@
-// The runs to which the Lyndon roots of both orders lead, gathered in order: document 02, T-03.
+// The runs to which the Lyndon roots of both orders lead, gathered in order: document 02, T-03. A string is of letters, or where `wide` is true of
+// symbols (T-07); the slice that it is not of is not read.
 ghost use mathlib.Core.Path.{_≡_};
 ghost use mathlib.Core.Logic.{_≢_};
 ghost use mathlib.Core.Bool.{true, false};
 ghost use mathlib.Core.List.{[], _∷_};
 ghost use Prim.Native.Nat.{_+_, _-_, _≤_, _<_, min};
+ghost use lib.Dec.{eqb};
 ghost use lib.ListN.{length, getD};
-ghost use Rattle.suffix.specs.Ranks.{ranks};
+ghost use Rattle.suffix.specs.Ranks.{stringOf};
 ghost use Rattle.repeats.specs.Report.{runs, before};
 ghost use Rattle.repeats.specs.Roots.{leftOf};
 ghost use Rattle.repeats.specs.Gathered.{reportOf};
@@ -34,35 +36,49 @@ fn most_left(i: usize, j: usize) -> usize
     i
 }
 
-// The letters before i that agree with those before j, j - i + 1 of them at the most.
-fn left_of(letters: &[u8], i: usize, j: usize) -> usize
-    requires { ⌜ (i < j) × (j ≤ length (now letters)) × (length (now letters) ≤ 1000000) ⌝ }
-    ensures { λ r. ⌜ r ≡ leftOf (ranks (now (letters .entry))) i j ⌝ }
+// Whether the ranks at two places are equal.
+fn same_at(letters: &[u8], symbols: &[u32], wide: bool, a: usize, b: usize) -> bool
+    requires { ⌜ (a < length (stringOf wide (now letters) (now symbols))) × (b < length (stringOf wide (now letters) (now symbols))) ⌝ }
+    ensures { λ r. ⌜ r ≡ eqb (getD (stringOf wide (now (letters .entry)) (now (symbols .entry))) a 0) (getD (stringOf wide (now (letters .entry)) (now (symbols .entry))) b 0) ⌝ }
+{
+    if wide {
+        return symbols[a] == symbols[b];
+    }
+    suffix::same_rank(letters[a], letters[b])
+}
+
+// How many places before i agree with those before j, j - i + 1 of them at the most.
+fn left_of(letters: &[u8], symbols: &[u32], wide: bool, i: usize, j: usize) -> usize
+    requires { ⌜ (i < j) × (j ≤ length (stringOf wide (now letters) (now symbols))) × (length (stringOf wide (now letters) (now symbols)) ≤ 1000000) ⌝ }
+    ensures { λ r. ⌜ r ≡ leftOf (stringOf wide (now (letters .entry)) (now (symbols .entry))) i j ⌝ }
 {
     let most = most_left(i, j);
     let mut x = 0;
     while x < most {
-        let a = letters[i - 1 - x];
-        let b = letters[j - 1 - x];
-        // equal letters have equal ranks
-        if a != b {
-            let c = suffix::rank(a);
-            let d = suffix::rank(b);
-            if c != d {
-                return x;
-            }
+        if same_at(letters, symbols, wide, i - 1 - x, j - 1 - x) {
+            x += 1;
+        } else {
+            return x;
         }
-        x += 1;
     }
     x
 }
 
 // The left part at place i with next j and next-match m, where it reports a run, or 0.
-fn accepted_left(letters: &[u8], reverse: bool, i: usize, j: usize, m: usize) -> usize
-    requires { ⌜ Within (length (now letters)) i j m × (length (now letters) ≤ 1000000) ⌝ }
-    ensures { λ r. ⌜ Judged (ranks (now (letters .entry))) reverse i j m r ⌝ }
+fn accepted_left(
+    letters: &[u8],
+    symbols: &[u32],
+    wide: bool,
+    n: usize,
+    reverse: bool,
+    i: usize,
+    j: usize,
+    m: usize,
+) -> usize
+    requires { ⌜ (length (stringOf wide (now letters) (now symbols)) ≡ n) × Within n i j m × (n ≤ 1000000) ⌝ }
+    ensures { λ r. ⌜ Judged (stringOf wide (now (letters .entry)) (now (symbols .entry))) reverse i j m r ⌝ }
 {
-    let x = left_of(letters, i, j);
+    let x = left_of(letters, symbols, wide, i, j);
     if x == 0 {
         return 0;
     }
@@ -73,7 +89,7 @@ fn accepted_left(letters: &[u8], reverse: bool, i: usize, j: usize, m: usize) ->
         return 0;
     }
     if reverse {
-        if j + m == letters.len() {
+        if j + m == n {
             return 0;
         }
     }
@@ -81,11 +97,21 @@ fn accepted_left(letters: &[u8], reverse: bool, i: usize, j: usize, m: usize) ->
 }
 
 // What place i reports: j and m are its next and next-match under the order, k and l those under its reverse.
-fn report_of(letters: &[u8], i: usize, j: usize, m: usize, k: usize, l: usize) -> Run
-    requires { ⌜ Within (length (now letters)) i j m × Within (length (now letters)) i k l × (length (now letters) ≤ 1000000) ⌝ }
-    ensures { λ r. ⌜ runOf r ≡ reportOf (ranks (now (letters .entry))) i j m k l ⌝ }
+fn report_of(
+    letters: &[u8],
+    symbols: &[u32],
+    wide: bool,
+    n: usize,
+    i: usize,
+    j: usize,
+    m: usize,
+    k: usize,
+    l: usize,
+) -> Run
+    requires { ⌜ (length (stringOf wide (now letters) (now symbols)) ≡ n) × Within n i j m × Within n i k l × (n ≤ 1000000) ⌝ }
+    ensures { λ r. ⌜ runOf r ≡ reportOf (stringOf wide (now (letters .entry)) (now (symbols .entry))) i j m k l ⌝ }
 {
-    let x = accepted_left(letters, false, i, j, m);
+    let x = accepted_left(letters, symbols, wide, n, false, i, j, m);
     if x > 0 {
         return Run {
             start: (i - x) as u32,
@@ -93,7 +119,7 @@ fn report_of(letters: &[u8], i: usize, j: usize, m: usize, k: usize, l: usize) -
             period: (j - i) as u32,
         };
     }
-    let z = accepted_left(letters, true, i, k, l);
+    let z = accepted_left(letters, symbols, wide, n, true, i, k, l);
     if z > 0 {
         return Run {
             start: (i - z) as u32,
@@ -194,7 +220,7 @@ fn insert(
 }
 
 // An entry as an index.
-fn wide(x: u32) -> usize
+fn index(x: u32) -> usize
     ensures { λ r. ⌜ r ≡ x ⌝ }
 {
     x as usize
@@ -204,7 +230,7 @@ fn read(table: &[u32], i: usize) -> usize
     requires { ⌜ i < length (now table) ⌝ }
     ensures { λ r. ⌜ r ≡ getD (now (table .entry)) i 0 ⌝ }
 {
-    wide(table[i])
+    index(table[i])
 }
 
 // 0 in three tables from a place on.
@@ -218,10 +244,13 @@ fn clear_three(first: &mut [u32], second: &mut [u32], third: &mut [u32], from: u
     clear_from(third, from, 0);
 }
 
-// The runs of the letters in three tables, with 0 beyond, and their number. `periods` holds next at entry: a place reports one run at most, so
-// its next is read before it is written over.
+// The runs of a string of n letters or symbols in three tables, with 0 beyond, and their number. `periods` holds next at entry: a place reports one run
+// at most, so its next is read before it is written over.
 fn collect(
     letters: &[u8],
+    symbols: &[u32],
+    wide: bool,
+    n: usize,
     starts: &mut [u32],
     ends: &mut [u32],
     periods: &mut [u32],
@@ -229,19 +258,29 @@ fn collect(
     reverse_next: &[u32],
     reverse_match: &[u32],
 ) -> usize
-    requires { ⌜ (length (now letters) ≤ 1000000) × (length (now starts) ≡ length (now letters)) × (length (now ends) ≡ length (now letters)) ⌝ }
-    requires { ⌜ Tabled (ranks (now letters)) false (now periods) (now «next_match») ⌝ }
-    requires { ⌜ Tabled (ranks (now letters)) true (now «reverse_next») (now «reverse_match») ⌝ }
-    ensures { λ r. ⌜ Listed (runs (ranks (now (letters .entry)))) (length (now (letters .entry))) (lists (now (starts .exit)) (now (ends .exit)) (now (periods .exit))) r ⌝ }
+    requires { ⌜ (length (stringOf wide (now letters) (now symbols)) ≡ n) × (n ≤ 1000000) × (length (now starts) ≡ n) × (length (now ends) ≡ n) ⌝ }
+    requires { ⌜ Tabled (stringOf wide (now letters) (now symbols)) false (now periods) (now «next_match») ⌝ }
+    requires { ⌜ Tabled (stringOf wide (now letters) (now symbols)) true (now «reverse_next») (now «reverse_match») ⌝ }
+    ensures { λ r. ⌜ Listed (runs (stringOf wide (now (letters .entry)) (now (symbols .entry)))) n (lists (now (starts .exit)) (now (ends .exit)) (now (periods .exit))) r ⌝ }
 {
     let mut count = 0;
     let mut i = 0;
-    while i < letters.len() {
+    while i < n {
         let next = read(periods, i);
         let matched = read(next_match, i);
         let other_next = read(reverse_next, i);
         let other_matched = read(reverse_match, i);
-        let run = report_of(letters, i, next, matched, other_next, other_matched);
+        let run = report_of(
+            letters,
+            symbols,
+            wide,
+            n,
+            i,
+            next,
+            matched,
+            other_next,
+            other_matched,
+        );
         count = insert(starts, ends, periods, count, run);
         i += 1;
     }
@@ -249,20 +288,32 @@ fn collect(
     count
 }
 
-// next and next-match, in the order of the letters or in its reverse. The other two tables are the build's to use.
+// next and next-match of a string of n letters or symbols, in their order or in its reverse. The other two tables are the build's to use.
 fn tables_of(
     letters: &[u8],
+    symbols: &[u32],
+    wide: bool,
     reverse: bool,
+    n: usize,
     previous: &mut [u32],
     next: &mut [u32],
     previous_match: &mut [u32],
     next_match: &mut [u32],
 )
-    requires { ⌜ length (now letters) ≤ 1000000 ⌝ }
-    requires { ⌜ (length (now previous) ≡ length (now letters)) × (length (now next) ≡ length (now letters)) × (length (now «previous_match») ≡ length (now letters)) × (length (now «next_match») ≡ length (now letters)) ⌝ }
-    ensures { λ _. ⌜ Tabled (ranks (now (letters .entry))) reverse (now (next .exit)) (now («next_match» .exit)) ⌝ }
+    requires { ⌜ (length (stringOf wide (now letters) (now symbols)) ≡ n) × (n ≤ 1000000) ⌝ }
+    requires { ⌜ (length (now previous) ≡ n) × (length (now next) ≡ n) × (length (now «previous_match») ≡ n) × (length (now «next_match») ≡ n) ⌝ }
+    ensures { λ _. ⌜ Tabled (stringOf wide (now (letters .entry)) (now (symbols .entry))) reverse (now (next .exit)) (now («next_match» .exit)) ⌝ }
 {
-    build::build_tables(letters, reverse, previous, next, previous_match, next_match);
+    build::build_tables(
+        letters,
+        symbols,
+        wide,
+        reverse,
+        previous,
+        next,
+        previous_match,
+        next_match,
+    );
 }
 
 // Whether one of six lengths is not n.
@@ -290,10 +341,12 @@ pub fn any_off(n: usize, a: usize, b: usize, c: usize, d: usize, e: usize, f: us
     false
 }
 
-// Gathers the runs of the letters in order: starts in `previous`, ends in `previous_match`, periods in `next`, with 0 beyond them and in the other
+// Gathers the runs of a string in order: starts in `previous`, ends in `previous_match`, periods in `next`, with 0 beyond them and in the other
 // tables. Their number is returned. A refusal writes nothing.
 pub fn gather(
     letters: &[u8],
+    symbols: &[u32],
+    wide: bool,
     previous: &mut [u32],
     next: &mut [u32],
     previous_match: &mut [u32],
@@ -302,16 +355,17 @@ pub fn gather(
     reverse_match: &mut [u32],
 ) -> Answer
     ensures { λ r.
-        ⌜ Gathered (ranks (now (letters .entry)))
+        ⌜ Gathered (stringOf wide (now (letters .entry)) (now (symbols .entry)))
         (now (previous .entry) ∷ now (next .entry) ∷ now («previous_match» .entry) ∷ now («next_match» .entry) ∷ now («reverse_next» .entry) ∷ now («reverse_match» .entry) ∷ [])
         (now (previous .exit) ∷ now (next .exit) ∷ now («previous_match» .exit) ∷ now («next_match» .exit) ∷ now («reverse_next» .exit) ∷ now («reverse_match» .exit) ∷ [])
         r ⌝ }
 {
-    if letters.len() > 1000000 {
+    let n = suffix::string_length(letters, symbols, wide);
+    if n > 1000000 {
         return Answer::NoValue(Refusal::TooLong);
     }
     if any_off(
-        letters.len(),
+        n,
         previous.len(),
         next.len(),
         previous_match.len(),
@@ -321,10 +375,23 @@ pub fn gather(
     ) {
         return Answer::NoValue(Refusal::TableLength);
     }
-    tables_of(letters, false, previous, next, previous_match, next_match);
     tables_of(
         letters,
+        symbols,
+        wide,
+        false,
+        n,
+        previous,
+        next,
+        previous_match,
+        next_match,
+    );
+    tables_of(
+        letters,
+        symbols,
+        wide,
         true,
+        n,
         previous,
         reverse_next,
         previous_match,
@@ -332,6 +399,9 @@ pub fn gather(
     );
     let count = collect(
         letters,
+        symbols,
+        wide,
+        n,
         previous,
         previous_match,
         next,

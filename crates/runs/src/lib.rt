@@ -1,9 +1,9 @@
-// All runs of a string: document 02, T-03.
+// All runs of a string: document 02, T-03. It is of letters, or where `wide` is true of symbols (T-07).
 ghost use mathlib.Core.Path.{_≡_};
 ghost use Prim.Native.Nat.{_≤_};
 ghost use lib.ListN.{length};
 ghost use Rattle.suffix.specs.Search.{tabulate};
-ghost use Rattle.suffix.specs.Ranks.{ranks};
+ghost use Rattle.suffix.specs.Ranks.{stringOf};
 ghost use Rattle.refusal.specs.Answers.{figuresOf};
 ghost use Rattle.repeats.specs.Refusals.{lists};
 ghost use Rattle.repeats.specs.Answers.{zeros};
@@ -71,10 +71,12 @@ fn value_of(answer: Answer) -> usize
     }
 }
 
-// Reports all runs of the letters, by start and then by period, in three lists, with 0 beyond. The work tables hold 0 afterwards, also where there
+// Reports all runs of a string, by start and then by period, in three lists, with 0 beyond. The work tables hold 0 afterwards, also where there
 // are more runs than entries; any other refusal writes nothing.
 pub fn report(
     letters: &[u8],
+    symbols: &[u32],
+    wide: bool,
     previous: &mut [u32],
     next: &mut [u32],
     previous_match: &mut [u32],
@@ -86,18 +88,19 @@ pub fn report(
     periods: &mut [u32],
 ) -> Answer
     ensures { λ r.
-        ⌜ Reported (ranks (now (letters .entry)))
+        ⌜ Reported (stringOf wide (now (letters .entry)) (now (symbols .entry)))
         (workOf (now (previous .entry)) (now (next .entry)) (now («previous_match» .entry)) (now («next_match» .entry)) (now («reverse_next» .entry)) (now («reverse_match» .entry)))
         (lists (now (starts .entry)) (now (ends .entry)) (now (periods .entry)))
         (workOf (now (previous .exit)) (now (next .exit)) (now («previous_match» .exit)) (now («next_match» .exit)) (now («reverse_next» .exit)) (now («reverse_match» .exit)))
         (lists (now (starts .exit)) (now (ends .exit)) (now (periods .exit)))
         (figuresOf r) ⌝ }
 {
-    if letters.len() > 1000000 {
+    let n = suffix::string_length(letters, symbols, wide);
+    if n > 1000000 {
         return Answer::NoValue(Refusal::TooLong);
     }
     if roots::any_off(
-        letters.len(),
+        n,
         previous.len(),
         next.len(),
         previous_match.len(),
@@ -116,6 +119,8 @@ pub fn report(
     // not refused: what it tests is tested above
     let gathered = roots::gather(
         letters,
+        symbols,
+        wide,
         previous,
         next,
         previous_match,

@@ -10,7 +10,7 @@ use Rattle.suffix.specs.Lyndon.{isLyndon, part, longestLyndon}
 use Rattle.refusal.specs.Numbers.{lowest, lowestFrom}
 use Rattle.refusal.specs.Conditions.{byteBit, bitOf, spareBitSet, closedTooEarly, leftOpen, buildRefusal, readRefusal, wordRefusal}
 use Rattle.reuse.specs.Steps.{scan, scanFrom, reuse, settle, recordPrevious, recordNext, climb, advance, advances, stateOf, rowStart, row, start, afterRows}
-use Rattle.build.specs.Built.{lentAfter, refusalOf, answer, lentAtExit}
+use Rattle.outcome.specs.Built.{lentAfter, refusalOf, answer, lentAtExit}
 use Rattle.word.specs.Word.{wordPart, wordStart}
 use Rattle.specimens.specs.Specimens.{SpecimensHold}
 

@@ -9,7 +9,7 @@ use Rattle.suffix.specs.Tree.{treeLength}
 use Rattle.suffix.specs.Lyndon.{longestLyndon}
 use Rattle.refusal.specs.Conditions.{readRefusal, wordRefusal}
 use Rattle.reuse.specs.Steps.{comparisons}
-use Rattle.build.specs.Built.{Figures, finished, halted, Lent, answer, lentAtExit}
+use Rattle.outcome.specs.Built.{Figures, finished, halted, Lent, answer, lentAtExit}
 use Rattle.word.specs.Word.{wordPart, wordStart}
 
 -- what may be asked: the answer of a build of R rows, the sum of its comparisons, or one of the four tables or the tree that it leaves;
@@ -56,7 +56,7 @@ given (tree letters R) = entries (left letters R .tree)
 given (lengths letters) = entries (tabulate (length letters) (longestLyndon (ranks letters)))
 given (read n t) = number (readRefusal n t n n)
 given (word-refusal letters i) = number (wordRefusal (length letters) i)
-given (word letters i) = entries (wordPart letters i)
+given (word letters i) = entries (wordPart letters (ranks letters) i)
 given (word-start letters i) = number (wordStart letters i)
 
 pub record Specimen : Type 0 where

@@ -1,3 +1,4 @@
+pub mod Tests
 pub mod Examples
 pub mod Cases
 pub mod Search

@@ -1,13 +1,13 @@
--- Ranks in their order, and in the reverse one.
-use mathlib.Core.Path.{_≡_, refl, sym, ap, _∙_}
+-- Ranks in their order, and in the reverse one; strings of letters and of symbols.
+use mathlib.Core.Path.{_≡_, refl}
 use mathlib.Core.Logic.{inl, inr}
-use mathlib.Core.Bool.{Bool, true, false}
+use mathlib.Core.Bool.{Bool, true, false, true≢false, false≢true}
 use mathlib.Core.List.{List, [], _∷_}
 use Prim.Native.Nat.{ℕ, zero, suc, _+_, _-_, _≤_, _<_}
 use native.Mathlib.Omega.{arith}
 use lib.ListN.{length, getD, drop, length-map}
 use borrow.Author.Tests.{le-leb, lt-leb}
-use Rattle.suffix.specs.Ranks.{rank, ranks, greatestRank, orientedFrom}
+use Rattle.suffix.specs.Ranks.{rank, ranks, stringOf, greatestRank, orientedFrom, oriented, orientedRank}
 use Rattle.suffix.specs.Claims.{NotSmall}
 use Rattle.suffix.proofs.Cases.{Tri, lt, eq, gt, tri}
 
@@ -49,11 +49,6 @@ ranks-entry [] i h = absurd (omega arith)
 ranks-entry (x ∷ letters) zero h = refl
 ranks-entry (x ∷ letters) (suc i) h = ranks-entry letters i (omega arith)
 
--- equal letters have equal ranks
-pub ranks-same : (letters : List ℕ) (i j : ℕ) → i < length letters → j < length letters → getD letters i 0 ≡ getD letters j 0
-    → getD (ranks letters) i 0 ≡ getD (ranks letters) j 0
-ranks-same letters i j h g e = ranks-entry letters i h ∙ ap rank e ∙ sym (ranks-entry letters j g)
-
 -- the rank of a byte is a byte
 pub rank-byte : (letter : ℕ) → letter < 256 → rank letter < 256
 rank-byte letter h = go (ranked letter)
@@ -81,3 +76,47 @@ pub reversed-entry : (top : ℕ) (y : List ℕ) (i : ℕ) → i < length y → g
 reversed-entry top [] i h = absurd (omega arith)
 reversed-entry top (x ∷ y) zero h = refl
 reversed-entry top (x ∷ y) (suc i) h = reversed-entry top y i (omega arith)
+
+pub oriented-entry : (reverse : Bool) (y : List ℕ) (i : ℕ) → i < length y → getD (oriented reverse y) i 0 ≡ orientedRank reverse (getD y i 0)
+oriented-entry false y i h = refl
+oriented-entry true y i h = reversed-entry greatestRank y i h
+
+-- ---- strings of either width
+
+pub symbols-long : (wide : Bool) (letters symbols : List ℕ) → wide ≡ true → length (stringOf wide letters symbols) ≡ length symbols
+symbols-long true letters symbols e = refl
+symbols-long false letters symbols e = absurd (false≢true e)
+
+pub letters-long : (wide : Bool) (letters symbols : List ℕ) → wide ≡ false → length (stringOf wide letters symbols) ≡ length letters
+letters-long true letters symbols e = absurd (true≢false e)
+letters-long false letters symbols e = ranks-length letters
+
+-- symbols of 32 bits are ranks, and so are the ranks of bytes
+pub string-most : (wide : Bool) (letters symbols : List ℕ) → ((i : ℕ) → i < length letters → getD letters i 0 < 256) → ((i : ℕ) → i < length symbols → getD symbols i 0 < 4294967296)
+    → (i : ℕ) → i < length (stringOf wide letters symbols) → getD (stringOf wide letters symbols) i 0 ≤ greatestRank
+string-most false letters symbols bytes words i h = ranks-most letters bytes i h
+string-most true letters symbols bytes words i h = omega (arith, words i h)
+
+-- two places of a string, which is of symbols or of letters, and the ranks there
+pub record AtSymbols (wide : Bool) (letters symbols : List ℕ) (a b : ℕ) : Type 0 where
+  pub inside-a : a < length symbols
+  pub inside-b : b < length symbols
+  pub rank-a : getD (stringOf wide letters symbols) a 0 ≡ getD symbols a 0
+  pub rank-b : getD (stringOf wide letters symbols) b 0 ≡ getD symbols b 0
+
+pub record AtLetters (wide : Bool) (letters symbols : List ℕ) (a b : ℕ) : Type 0 where
+  pub inside-a : a < length letters
+  pub inside-b : b < length letters
+  pub rank-a : getD (stringOf wide letters symbols) a 0 ≡ rank (getD letters a 0)
+  pub rank-b : getD (stringOf wide letters symbols) b 0 ≡ rank (getD letters b 0)
+
+module _ {wide : Bool} {letters symbols : List ℕ} {a b : ℕ}
+    (h : (a < length (stringOf wide letters symbols)) × (b < length (stringOf wide letters symbols))) where
+  pub at-symbols : wide ≡ true → AtSymbols wide letters symbols a b
+  at-symbols e = record { inside-a = rw e at (h .0); inside-b = rw e at (h .1); rank-a = rw e; rank-b = rw e }
+
+  pub at-letters : wide ≡ false → AtLetters wide letters symbols a b
+  at-letters e =
+      let x : a < length letters = omega (arith, ranks-length letters, rw e at (h .0)) in
+      let z : b < length letters = omega (arith, ranks-length letters, rw e at (h .1)) in
+      record { inside-a = x; inside-b = z; rank-a = rw e (ranks-entry letters a x); rank-b = rw e (ranks-entry letters b z) }

@@ -1,4 +1,5 @@
--- Document 01, "What the house files, and what it doesn't": "Letters compare by their byte value, unsigned.", as document 02, T-04, amends it.
+-- Document 01, "What the house files, and what it doesn't": "Letters compare by their byte value, unsigned.", as document 02 amends it: T-04 by masked letters, T-07 by
+-- symbols of 32 bits.
 use mathlib.Core.Bool.{Bool, true, false, _&&_}
 use mathlib.Core.List.{List, map}
 use Prim.Native.Nat.{ℕ, _+_, _-_}
@@ -13,6 +14,12 @@ rank letter = elim (leb 97 letter && leb letter 122) [ true ↦ 65 + (letter - 9
 abbrev pub ranks : List ℕ → List ℕ
 ranks letters = map rank letters
 
+-- Document 02, T-07: a string of either width. It is of letters, or where `wide` is true of symbols, "32-bit unsigned numbers": "Symbols compare as
+-- numbers, with no masking.", so they are their own ranks.
+abbrev pub stringOf : (wide : Bool) → (letters symbols : List ℕ) → List ℕ
+stringOf false letters symbols = ranks letters
+stringOf true letters symbols = symbols
+
 -- Document 02, T-03: "under the byte order and under its reverse". In the reverse order ranks are counted down from one that none is above:
 -- the greater one is the smaller, equal ones stay equal, and the end stays smaller than any letter.
 abbrev pub orientedFrom : (top : ℕ) → (reverse : Bool) → List ℕ → List ℕ
@@ -25,3 +32,8 @@ greatestRank = 4294967295
 
 abbrev pub oriented : (reverse : Bool) → List ℕ → List ℕ
 oriented reverse y = orientedFrom greatestRank reverse y
+
+-- one rank in that order
+abbrev pub orientedRank : (reverse : Bool) → ℕ → ℕ
+orientedRank false x = x
+orientedRank true x = greatestRank - x

@@ -18,8 +18,8 @@ use Rattle.refusal.specs.Numbers.{lowest, lowestFrom}
 use Rattle.refusal.specs.Conditions.{buildRefusal}
 use Rattle.reuse.specs.Steps.{comparisons}
 use Rattle.reuse.proofs.Laws.{stepsAreExact}
-use Rattle.build.specs.Built.{Lent, lentAfter, Figures, refusalOf, answer, BuiltExactly}
-use Rattle.build.proofs.Answers.{left-built}
+use Rattle.outcome.specs.Built.{Lent, lentAfter, Figures, figuresAt, refusalOf, answer, BuiltExactly}
+use Rattle.outcome.proofs.Answers.{left-built}
 use Rattle.tables_text.specs.Text.{headText, lines, tablesText, tooLongText, programText, Rendered}
 use Rattle.writing.specs.Writing.{Wrote}
 use Rattle.tables_text.specs.Buffers.{Room, WholeBuild, countOf, mostCompared}
@@ -44,7 +44,7 @@ module _ (y : List ℕ) (before after : Lent) (f : Figures) (accepted : refusalO
   unfolding answer
   counted =
       let z : countOf (answer y (length y) before) ≡ comparisons y (length y) =
-      rw (eq-eqb (refusalOf y (length y) before) 0 accepted, eq-eqb (length y) (length y) refl, answer)
+      rw (eq-eqb (refusalOf y (length y) before) 0 accepted, answer, eq-eqb (length y) (length y) refl, figuresAt)
       in ap countOf (e .answers) ∙ z
 
   few : length y ≤ 2048 → countOf f ≤ mostCompared

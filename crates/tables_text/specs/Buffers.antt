@@ -6,7 +6,7 @@ use lib.ListN.{length, getD}
 use Rattle.suffix.specs.Nearest.{previous, next}
 use Rattle.suffix.specs.Tree.{treeBytes, treeLength}
 use Rattle.reuse.specs.Steps.{comparisons}
-use Rattle.build.specs.Built.{Figures, finished, halted, refused}
+use Rattle.outcome.specs.Built.{Figures, finished, halted, refused}
 
 -- memory for n positions: four tables and a tree, by their lengths
 pub record Room (n p q pm qm t : ℕ) : Type 0 where

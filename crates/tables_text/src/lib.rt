@@ -1,7 +1,7 @@
 // The text of the tables program: built, put into a buffer, and written to standard output.
-use build::Built;
 use libc::STDIN_FILENO;
 use libc::STDOUT_FILENO;
+use outcome::Built;
 use suffix::tree_length;
 ghost use mathlib.Core.Path.{_≡_};
 ghost use mathlib.Core.List.{[], _∷_};
@@ -9,7 +9,7 @@ ghost use Prim.Native.Nat.{_+_, _≤_, _<_};
 ghost use lib.ListN.{length};
 ghost use Rattle.io.specs.Digits.{digits};
 ghost use Rattle.suffix.specs.Ranks.{ranks};
-ghost use Rattle.build.specs.Built.{figuresOf};
+ghost use Rattle.outcome.specs.Built.{figuresOf};
 ghost use Rattle.tables_text.specs.Text.{decimal, hexes, treeText, field, orDash, figure, lines, lineText, headText, tablesText, Rendered};
 ghost use Rattle.writing.specs.Writing.{Wrote};
 ghost use Rattle.tables_text.specs.Buffers.{Room, Nearests, WholeBuild, countOf, mostCompared};
@@ -170,8 +170,11 @@ fn build_all(
     requires { ⌜ Room (length (now letters)) (length (now previous)) (length (now next)) (length (now «previous_match»)) (length (now «next_match»)) (length (now tree)) ⌝ }
     ensures { λ r. ⌜ WholeBuild (ranks (now (letters .entry))) (now (previous .exit)) (now (next .exit)) (now (tree .exit)) r ⌝ }
 {
+    let no_symbols = [0u32; 0];
     count(build::build(
         letters,
+        &no_symbols,
+        false,
         letters.len(),
         previous,
         next,

@@ -1,25 +1,21 @@
--- The longest-word question, refused and not, and of masked letters; and the law that proves specs/Claims.antt.
+-- The longest-word question, refused and not; and the law that proves specs/Claims.antt.
 use mathlib.Core.Path.{_≡_, refl, sym, ap, _∙_}
 use mathlib.Core.Logic.{_≢_}
 use mathlib.Core.Bool.{Bool, true, false}
 use mathlib.Core.List.{List, [], _∷_}
-use Prim.Native.Nat.{ℕ, _+_, _-_, _≤_, _<_}
+use Prim.Native.Nat.{ℕ, _+_, _-_, _*_, _≤_, _<_}
+use native.Mathlib.Nat.{zero-add, zero-mul}
 use native.Mathlib.Omega.{arith}
 use lib.ListN.{length, take, drop, length-drop}
 use borrow.Author.Tests.{lt-ltb, le-ltb, le-leb, lt-leb, leb-false, eq-eqb, ne-eqb}
 use borrow.Rule.Slice.PartAt.{part-to-end}
-use Rattle.suffix.specs.Ranks.{ranks}
-use Rattle.suffix.specs.Nearest.{next}
+use denote.Ref.{RefT}
 use Rattle.suffix.specs.Lyndon.{part, longestLyndon}
-use Rattle.suffix.specs.Claims.{SameLetters}
-use Rattle.suffix.proofs.Cases.{Same, same, other, same?}
-use Rattle.suffix.proofs.Laws.{sameLettersSameRanks}
-use Rattle.suffix.proofs.Ranks.{ranks-length, ranks-drop}
 use Rattle.suffix.proofs.Nearest.{next-le}
 use Rattle.suffix.proofs.Lyndon.{part-length, longest-next}
 use Rattle.refusal.specs.Numbers.{lowest, lowestFrom}
 use Rattle.refusal.specs.Conditions.{tooLong, positionOutside, wordRefusal}
-use Rattle.word.specs.Word.{wordPart, wordStart}
+use Rattle.word.specs.Word.{wordPart, wordStart, WordAnswered}
 use Rattle.word.specs.Claims.{WordIsLongest}
 
 -- ---- the number
@@ -53,15 +49,16 @@ longest-from : (y : List ℕ) (i : ℕ) → longestLyndon (drop i y) 0 ≡ longe
 unfolding longestLyndon part
 longest-from y i = let z : length (drop i y) - 0 ≡ length y - i = omega (arith, length-drop i y) in rw z
 
-module _ (letters : List ℕ) (i : ℕ) where
-  pub part-taken : wordRefusal (length letters) i ≡ 0 → wordPart letters i ≡ part letters i (longestLyndon (ranks letters) i)
+module _ (letters y : List ℕ) (i : ℕ) where
+  pub part-taken : wordRefusal (length letters) i ≡ 0 → wordPart letters y i ≡ part letters i (longestLyndon y i)
   unfolding wordPart
   part-taken e = rw (eq-eqb _ 0 e, wordPart)
 
-  pub part-refused : wordRefusal (length letters) i ≢ 0 → wordPart letters i ≡ []
+  pub part-refused : wordRefusal (length letters) i ≢ 0 → wordPart letters y i ≡ []
   unfolding wordPart
   part-refused e = rw (ne-eqb _ 0 e, wordPart)
 
+module _ (letters : List ℕ) (i : ℕ) where
   pub start-taken : wordRefusal (length letters) i ≡ 0 → wordStart letters i ≡ i
   unfolding wordStart
   start-taken e = rw (eq-eqb _ 0 e, wordStart)
@@ -70,38 +67,52 @@ module _ (letters : List ℕ) (i : ℕ) where
   unfolding wordStart
   start-refused e = rw (ne-eqb _ 0 e, wordStart)
 
-  -- what the slice from i on holds: the longest Lyndon word at its front is that from i
-  pub cut-length : length (take (length letters - i) (drop i letters)) ≡ length letters - i
-  cut-length = rw part-to-end (length-drop i letters)
+-- the letters or symbols from i on, and s their ranks: the longest Lyndon word at the front of s is that from i
+pub record Suffix (letters y : List ℕ) (i : ℕ) (s : List ℕ) : Type 0 where
+  pub inside : i < length letters
+  pub lengths : length (take (length letters - i) (drop i letters)) ≡ length letters - i
+  pub some : 0 < length s
+  pub longest : longestLyndon s 0 ≡ longestLyndon y i
+  pub fits : longestLyndon y i ≤ length letters - i
 
-  pub longest-cut : longestLyndon (ranks (take (length letters - i) (drop i letters))) 0 ≡ longestLyndon (ranks letters) i
-  longest-cut = rw part-to-end (ap (λ l. longestLyndon l 0) (ranks-drop i letters) ∙ longest-from (ranks letters) i)
-
-  pub longest-is : i < length letters → longestLyndon (ranks letters) i ≡ next (ranks letters) i - i
-  longest-is h = longest-next (ranks letters) i (omega (arith, ranks-length letters))
-
-  pub longest-fits : i < length letters → i + longestLyndon (ranks letters) i ≤ length letters
-  longest-fits h = omega (arith, longest-is h, next-le (ranks letters) i, ranks-length letters)
+-- so it is from a position that is not refused
+module _ (letters y : List ℕ) (i : ℕ) (q : length y ≡ length letters) (e : wordRefusal (length letters) i ≡ 0) where
+  pub suffix : {s : List ℕ} → s ≡ drop i y → Suffix letters y i s
+  suffix cut =
+      let h : i < length letters = inside (length letters) i e in
+      record {
+        inside = h;
+        lengths = rw part-to-end (length-drop i letters);
+        some = omega (arith, q, ap length cut, length-drop i y);
+        longest = ap (λ l. longestLyndon l 0) cut ∙ longest-from y i;
+        fits = omega (arith, q, longest-next y i (omega arith), next-le y i);
+      }
 
 pub wordIsLongest : WordIsLongest
-wordIsLongest letters i e =
-    let h : i < length letters = inside (length letters) i e in
-    let z : length (wordPart letters i) ≡ longestLyndon (ranks letters) i = ap length (part-taken letters i e) ∙ part-length letters i (longestLyndon (ranks letters) i) (longest-fits letters i h) in
-    (omega (arith, z, longest-is letters i h), z)
+wordIsLongest letters y i q e =
+    let s = suffix letters y i q e refl in
+    let z : length (wordPart letters y i) ≡ longestLyndon y i =
+    ap length (part-taken letters y i e) ∙ part-length letters i (longestLyndon y i) (omega (arith, s)) in
+    (omega (arith, z, longest-next y i (omega (arith, s))), z)
 
--- of two strings that differ in masking alone: the refusal, where the part starts, and its length
-pub same-words : (letters others : List ℕ) (i : ℕ) → SameLetters letters others
-    → (wordRefusal (length letters) i ≡ wordRefusal (length others) i) × (wordStart letters i ≡ wordStart others i) × (length (wordPart letters i) ≡ length (wordPart others i))
-same-words letters others i S = let g = go (same? (wordRefusal (length letters) i) 0) in (number, g .0, g .1)
-  where
-    number : wordRefusal (length letters) i ≡ wordRefusal (length others) i
-    number = ap (λ n. wordRefusal n i) (S .lengths)
+-- ---- the answer, over letters and their ranks, and over symbols
 
-    go : Same (wordRefusal (length letters) i) 0 → (wordStart letters i ≡ wordStart others i) × (length (wordPart letters i) ≡ length (wordPart others i))
-    go (same e) =
-        let z : wordRefusal (length others) i ≡ 0 = sym number ∙ e in
-        let longest = ap (λ y. longestLyndon y i) (sameLettersSameRanks letters others .0 S) in
-        (start-taken letters i e ∙ sym (start-taken others i z), wordIsLongest letters i e .1 ∙ longest ∙ sym (wordIsLongest others i z .1))
-    go (other h) =
-        let z : wordRefusal (length others) i ≢ 0 = (λ q. h (number ∙ q)) in
-        (start-refused letters i h ∙ sym (start-refused others i z), ap length (part-refused letters i h ∙ sym (part-refused others i z)))
+module _ {bytes : ℕ} {letters : RefT (List ℕ)} (y : List ℕ) {i number : ℕ} {word : RefT (List ℕ)} (e : number ≡ wordRefusal (length (letters .now)) i) where
+  pub refused : number ≢ 0 → word .now ≡ [] → word .ptr ≡ letters .ptr → WordAnswered bytes letters y i number word
+  refused h empty own =
+      let g : wordRefusal (length (letters .now)) i ≢ 0 = λ q. h (e ∙ q) in
+      record {
+        refusal = e;
+        part = empty ∙ sym (part-refused (letters .now) y i g);
+        own = rw (start-refused (letters .now) i g, zero-mul, zero-add) own;
+      }
+
+  pub taken : wordRefusal (length (letters .now)) i ≡ 0 → {k : ℕ} → k ≡ longestLyndon y i → word .now ≡ take k (take (length (letters .now) - i) (drop i (letters .now)))
+      → word .ptr ≡ (letters .ptr .0, i * bytes + letters .ptr .1) → WordAnswered bytes letters y i number word
+  unfolding part
+  taken z k now own =
+      record {
+        refusal = e;
+        part = now ∙ rw part-to-end (ap (part (letters .now) i) k ∙ sym (part-taken (letters .now) y i z));
+        own = rw (start-taken (letters .now) i z) own;
+      }

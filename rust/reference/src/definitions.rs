@@ -1,21 +1,21 @@
 //! The definitions of document 01, computed as they are written. Letters compare by their ranks.
 
-use crate::ranks::{ranks, same};
+use crate::ranks::{ranks, same, Letter};
 use crate::{steps, Figures, Structure, Tables};
 
 /// Whether one string is smaller than another: a proper prefix is smaller, otherwise the first differing
 /// letter decides. This is the order of sequences, here of the ranks.
-fn less(left: &[u8], right: &[u8]) -> bool {
+fn less<L: Letter>(left: &[L], right: &[L]) -> bool {
     ranks(left).lt(ranks(right))
 }
 
 /// Whether the suffix at `i` is smaller than the suffix at `j`.
-pub fn suffix_less(letters: &[u8], i: usize, j: usize) -> bool {
+pub fn suffix_less<L: Letter>(letters: &[L], i: usize, j: usize) -> bool {
     less(&letters[i..], &letters[j..])
 }
 
 /// match(i, j): the number of leading letters that the suffixes at `i` and `j` share.
-pub fn suffix_match(letters: &[u8], i: usize, j: usize) -> usize {
+pub fn suffix_match<L: Letter>(letters: &[L], i: usize, j: usize) -> usize {
     letters[i..]
         .iter()
         .zip(&letters[j..])
@@ -24,23 +24,23 @@ pub fn suffix_match(letters: &[u8], i: usize, j: usize) -> usize {
 }
 
 /// The greatest j < i whose suffix is smaller than that at `i`.
-pub fn previous(letters: &[u8], i: usize) -> Option<usize> {
+pub fn previous<L: Letter>(letters: &[L], i: usize) -> Option<usize> {
     (0..i).rev().find(|&j| suffix_less(letters, j, i))
 }
 
 /// The least j > i whose suffix is smaller than that at `i`.
-pub fn next(letters: &[u8], i: usize) -> Option<usize> {
+pub fn next<L: Letter>(letters: &[L], i: usize) -> Option<usize> {
     (i + 1..letters.len()).find(|&j| suffix_less(letters, j, i))
 }
 
 /// The least position whose entry in a claimed next table of n entries is not the defined one.
-pub fn least_wrong(letters: &[u8], claimed: &[u32]) -> Option<usize> {
+pub fn least_wrong<L: Letter>(letters: &[L], claimed: &[u32]) -> Option<usize> {
     let n = letters.len();
     (0..n).find(|&i| claimed[i] as usize != next(letters, i).unwrap_or(n))
 }
 
 /// The four tables after `rows` rows.
-pub fn tables(letters: &[u8], rows: usize) -> Tables {
+pub fn tables<L: Letter>(letters: &[L], rows: usize) -> Tables {
     let n = letters.len();
     let previous_after = |i| if i < rows { previous(letters, i) } else { None };
     let next_after = |i| {
@@ -60,7 +60,7 @@ pub fn tables(letters: &[u8], rows: usize) -> Tables {
 }
 
 /// The reach after `rows` rows, over all pairs.
-pub fn reach(letters: &[u8], rows: usize) -> usize {
+pub fn reach<L: Letter>(letters: &[L], rows: usize) -> usize {
     let previous: Vec<_> = (0..rows).map(|i| previous(letters, i)).collect();
     let next: Vec<_> = (0..rows).map(|i| next(letters, i)).collect();
     let pairs = (0..rows).flat_map(|r| (0..r).map(move |l| (l, r)));
@@ -70,7 +70,7 @@ pub fn reach(letters: &[u8], rows: usize) -> usize {
 }
 
 /// The tree after `rows` rows: position i hangs under previous\[i\], or is a root.
-pub fn tree(letters: &[u8], rows: usize) -> Vec<u8> {
+pub fn tree<L: Letter>(letters: &[L], rows: usize) -> Vec<u8> {
     let parents: Vec<_> = (0..rows).map(|i| previous(letters, i)).collect();
     let mut brackets = Vec::new();
     append_children(None, &parents, &mut brackets);
@@ -100,7 +100,7 @@ pub fn pack(brackets: &[bool], n: usize) -> Vec<u8> {
 }
 
 /// The whole answer of a build of `rows` rows, `rows` at most n.
-pub fn build(letters: &[u8], rows: usize) -> Structure {
+pub fn build<L: Letter>(letters: &[L], rows: usize) -> Structure {
     let steps = steps::run(letters, rows);
     Structure {
         figures: Figures {
@@ -116,12 +116,12 @@ pub fn build(letters: &[u8], rows: usize) -> Structure {
 }
 
 /// Whether `word` is non-empty and smaller than each of its proper non-empty suffixes.
-pub fn is_lyndon(word: &[u8]) -> bool {
+pub fn is_lyndon<L: Letter>(word: &[L]) -> bool {
     !word.is_empty() && (1..word.len()).all(|i| less(word, &word[i..]))
 }
 
 /// The longest Lyndon word that starts at `position`, `position` below n.
-pub fn longest_word(letters: &[u8], position: usize) -> &[u8] {
+pub fn longest_word<L: Letter>(letters: &[L], position: usize) -> &[L] {
     let suffix = &letters[position..];
     let longest = (1..=suffix.len())
         .rev()
@@ -156,5 +156,18 @@ mod tests {
         // Bytes 91 to 96 are greater than every letter, 123 too.
         assert_eq!(tree(b"a_", 2), [0x03]);
         assert_eq!(tree(b"_a", 2), [0x05]);
+    }
+
+    #[test]
+    fn symbols_compare_as_numbers() {
+        let in_order = [0, 65, 97, 255, 256, 0x7fff_ffff, 0x8000_0000, u32::MAX];
+        for pair in in_order.windows(2) {
+            let [left, right] = [pair[0], pair[1]].map(|symbol| [symbol]);
+            assert!(less(&left, &right) && !less(&right, &left), "{pair:?}");
+        }
+        let symbols: [u32; 4] = [97, 66, 97, 97];
+        assert_eq!(suffix_match(&symbols, 0, 2), 1);
+        assert_eq!(longest_word(&symbols, 0), [97]);
+        assert_eq!(tree(&symbols[..2], 2), [0x05]);
     }
 }

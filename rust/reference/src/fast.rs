@@ -1,14 +1,29 @@
 //! A plain Rust build by the same reuse steps, in either order, the check of a claimed next table, and the
 //! longest Lyndon word, usable at 1,000,000 letters. The benchmark compares the library with this code.
 
-use crate::ranks::rank;
+use crate::ranks::Letter;
 use crate::{refusals, Figures, Structure, Tables};
 
-/// Whether two letters have the same rank. Most that do are the same byte; a small letter and its capital
-/// differ in the bit of weight 32 alone.
-#[inline]
-pub(crate) fn equal(left: u8, right: u8) -> bool {
-    left == right || (left ^ right == 32 && (left | 32).is_ascii_lowercase())
+/// A letter as a scan compares it with another.
+pub trait Scanned: Letter {
+    /// Whether the two have the same rank.
+    fn equals(self, other: Self) -> bool;
+}
+
+impl Scanned for u8 {
+    /// Most that have the same rank are the same byte; a small letter and its capital differ in the bit of
+    /// weight 32 alone.
+    #[inline]
+    fn equals(self, other: u8) -> bool {
+        self == other || (self ^ other == 32 && (self | 32).is_ascii_lowercase())
+    }
+}
+
+impl Scanned for u32 {
+    #[inline]
+    fn equals(self, other: u32) -> bool {
+        self == other
+    }
 }
 
 /// The latest scanned pair: how far it reaches and how far apart its positions are. And the comparisons
@@ -23,9 +38,9 @@ struct Window {
 impl Window {
     /// Compares the suffixes at `l` and `r` from their letter `m` on. Returns their match, and whether
     /// the suffix at `l` is the smaller.
-    fn scan<const REVERSED: bool>(
+    fn scan<const REVERSED: bool, L: Scanned>(
         &mut self,
-        letters: &[u8],
+        letters: &[L],
         l: usize,
         r: usize,
         mut m: usize,
@@ -33,9 +48,9 @@ impl Window {
         let mut left_is_smaller = false;
         while r + m < letters.len() {
             let (left, right) = (letters[l + m], letters[r + m]);
-            if !equal(left, right) {
+            if !left.equals(right) {
                 self.unequal += 1;
-                left_is_smaller = (rank(left) < rank(right)) != REVERSED;
+                left_is_smaller = (left.rank() < right.rank()) != REVERSED;
                 break;
             }
             self.equal += 1;
@@ -49,8 +64,8 @@ impl Window {
 
 /// The first `rows` rows, in the order of the letters or in its reverse. `open` is called with the bit
 /// place of each row's opening.
-fn settle_rows<const REVERSED: bool>(
-    letters: &[u8],
+fn settle_rows<const REVERSED: bool, L: Scanned>(
+    letters: &[L],
     rows: usize,
     previous: &mut [u32],
     next: &mut [u32],
@@ -94,7 +109,7 @@ fn settle_rows<const REVERSED: bool>(
                 }
                 let (matched, left_is_smaller) = match settled {
                     Some(settled) => settled,
-                    None => window.scan::<REVERSED>(letters, l, r, m),
+                    None => window.scan::<REVERSED, L>(letters, l, r, m),
                 };
                 m = matched;
                 if left_is_smaller {
@@ -131,15 +146,15 @@ fn settle_rows<const REVERSED: bool>(
 
 /// The four tables of all letters, in the order of the letters or in its reverse, over tables of n
 /// entries each.
-pub fn tables<const REVERSED: bool>(
-    letters: &[u8],
+pub fn tables<const REVERSED: bool, L: Scanned>(
+    letters: &[L],
     previous: &mut [u32],
     next: &mut [u32],
     previous_match: &mut [u32],
     next_match: &mut [u32],
 ) {
     let rows = letters.len();
-    settle_rows::<REVERSED>(
+    settle_rows::<REVERSED, L>(
         letters,
         rows,
         previous,
@@ -151,8 +166,8 @@ pub fn tables<const REVERSED: bool>(
 }
 
 /// Builds the first `rows` rows into lent memory, or returns the number of a refusal.
-pub fn build(
-    letters: &[u8],
+pub fn build<L: Scanned>(
+    letters: &[L],
     rows: usize,
     previous: &mut [u32],
     next: &mut [u32],
@@ -170,7 +185,7 @@ pub fn build(
     refusals::first(&refusals::of_build(n, lengths, tree.len(), rows))?;
 
     tree.fill(0);
-    let window = settle_rows::<false>(
+    let window = settle_rows::<false, L>(
         letters,
         rows,
         previous,
@@ -196,8 +211,8 @@ pub fn build(
 
 /// The least position whose entry in a claimed next table is wrong, none where the table is right, with the
 /// four tables of all letters; or the number of a refusal, with the tables as they were.
-pub fn check(
-    letters: &[u8],
+pub fn check<L: Scanned>(
+    letters: &[L],
     claimed: &[u32],
     previous: &mut [u32],
     next: &mut [u32],
@@ -211,12 +226,12 @@ pub fn check(
         next_match.len(),
     ];
     refusals::first(&refusals::of_check(letters.len(), claimed.len(), work))?;
-    tables::<false>(letters, previous, next, previous_match, next_match);
+    tables::<false, L>(letters, previous, next, previous_match, next_match);
     Ok(claimed.iter().zip(&*next).position(|(a, b)| a != b))
 }
 
 /// The whole answer of a build of `rows` rows, `rows` at most n, in memory of its own.
-pub fn structure(letters: &[u8], rows: usize) -> Structure {
+pub fn structure<L: Scanned>(letters: &[L], rows: usize) -> Structure {
     let n = letters.len();
     let [mut previous, mut next, mut previous_match, mut next_match] =
         std::array::from_fn(|_| vec![0; n]);
@@ -245,15 +260,15 @@ pub fn structure(letters: &[u8], rows: usize) -> Structure {
 
 /// The longest Lyndon word that starts at `position`, `position` below n: the first word of Duval's
 /// factorization of the suffix.
-pub fn longest_word(letters: &[u8], position: usize) -> &[u8] {
+pub fn longest_word<L: Scanned>(letters: &[L], position: usize) -> &[L] {
     let suffix = &letters[position..];
     let mut period = 1;
     for end in 1..suffix.len() {
         let (before, letter) = (suffix[end - period], suffix[end]);
-        if equal(before, letter) {
+        if before.equals(letter) {
             continue;
         }
-        if rank(before) > rank(letter) {
+        if before.rank() > letter.rank() {
             break;
         }
         period = end + 1;
@@ -269,9 +284,9 @@ mod tests {
 
     #[test]
     fn letters_are_equal_where_their_ranks_are() {
-        for left in 0..=255 {
+        for left in 0..=255_u8 {
             for right in 0..=255 {
-                assert_eq!(equal(left, right), rank(left) == rank(right));
+                assert_eq!(left.equals(right), left.rank() == right.rank());
             }
         }
     }
@@ -342,5 +357,27 @@ mod tests {
             Err(2)
         );
         assert_eq!([a, b, c, d], [[7; 2]; 4]);
+    }
+
+    #[test]
+    fn symbols_are_answered_as_defined() {
+        for n in 0..=6 {
+            for symbols in samples::strings_over(&samples::THREE_SYMBOLS, n) {
+                for rows in 0..=n {
+                    let expected = definitions::build(&symbols, rows);
+                    assert_eq!(structure(&symbols, rows), expected);
+                }
+                for i in 0..n {
+                    let word = longest_word(&symbols, i);
+                    assert_eq!(word, definitions::longest_word(&symbols, i));
+                }
+            }
+        }
+        for (kind, symbols) in samples::symbol_kinds(&mut Random::new(7), 100) {
+            for rows in [60, 100] {
+                let expected = definitions::build(&symbols, rows);
+                assert_eq!(structure(&symbols, rows), expected, "{kind}");
+            }
+        }
     }
 }

@@ -1,20 +1,20 @@
 //! All runs of a string from its Lyndon roots in both orders, as the library finds them, in plain Rust and
 //! usable at 1,000,000 letters. The benchmark compares the library with this code.
 
-use crate::fast::equal;
+use crate::fast::Scanned;
 use crate::runs::Run;
 use crate::{fast, refusals};
 
 /// The letters before `i` that agree with those before `j`, counted up to one more than `j` - `i`.
-fn left_of(letters: &[u8], i: usize, j: usize) -> usize {
+fn left_of<L: Scanned>(letters: &[L], i: usize, j: usize) -> usize {
     let most = i.min(j - i + 1);
     let before = letters[i - most..i].iter().zip(&letters[j - most..j]);
-    before.rev().take_while(|(&a, &b)| equal(a, b)).count()
+    before.rev().take_while(|(&a, &b)| a.equals(b)).count()
 }
 
 /// The run with a Lyndon root at `i`, whose next smaller suffix in one of the orders is at `j` and shares
 /// `m` letters with it. A run up to the string's end is left to the order of the letters.
-fn run_at(letters: &[u8], reversed: bool, i: usize, j: usize, m: usize) -> Option<Run> {
+fn run_at<L: Scanned>(letters: &[L], reversed: bool, i: usize, j: usize, m: usize) -> Option<Run> {
     let period = j - i;
     let left = left_of(letters, i, j);
     let is_run = left >= 1 && left <= period && left + m >= period;
@@ -28,8 +28,8 @@ fn run_at(letters: &[u8], reversed: bool, i: usize, j: usize, m: usize) -> Optio
 /// Puts all runs, in the order of the report, into the first entries of three tables, and returns their
 /// number. `periods` is the next table before: its entries are read before they are overwritten, since
 /// each position is the root of one run at the most.
-fn gather(
-    letters: &[u8],
+fn gather<L: Scanned>(
+    letters: &[L],
     starts: &mut [u32],
     ends: &mut [u32],
     periods: &mut [u32],
@@ -69,15 +69,21 @@ fn gather(
 
 /// Reports all runs in the lists of starts, ends and periods, and returns their number, or the number of a
 /// refusal. The work tables hold 0 afterwards, also after 13.
-pub fn report(letters: &[u8], lists: [&mut [u32]; 3], work: [&mut [u32]; 6]) -> Result<usize, u32> {
+// The benchmark calls it, as it calls the library.
+#[inline(never)]
+pub fn report<L: Scanned>(
+    letters: &[L],
+    lists: [&mut [u32]; 3],
+    work: [&mut [u32]; 6],
+) -> Result<usize, u32> {
     let n = letters.len();
     let work_lengths = work.each_ref().map(|table| table.len());
     let list_lengths = lists.each_ref().map(|list| list.len());
     refusals::first(&refusals::of_runs(n, work_lengths, list_lengths, 0))?;
 
     let [previous, next, previous_match, next_match, reverse_next, reverse_match] = work;
-    fast::tables::<false>(letters, previous, next, previous_match, next_match);
-    fast::tables::<true>(
+    fast::tables::<false, L>(letters, previous, next, previous_match, next_match);
+    fast::tables::<true, L>(
         letters,
         previous,
         reverse_next,
@@ -121,7 +127,7 @@ pub fn report(letters: &[u8], lists: [&mut [u32]; 3], work: [&mut [u32]; 6]) -> 
 }
 
 /// All runs, in memory of its own. There are at most 1,000,000 letters.
-pub fn runs(letters: &[u8]) -> Vec<Run> {
+pub fn runs<L: Scanned>(letters: &[L]) -> Vec<Run> {
     let n = letters.len();
     let mut lists = [0; 3].map(|zero| vec![zero; n]);
     let mut work = [0; 6].map(|zero| vec![zero; n]);
@@ -165,6 +171,18 @@ mod tests {
             for (kind, letters) in kinds.chain(samples::bases(&mut random, n)) {
                 assert_eq!(runs(&letters), by_periods(&letters), "{kind}");
             }
+        }
+    }
+
+    #[test]
+    fn runs_of_symbols_are_as_defined() {
+        for n in 0..=7 {
+            for symbols in samples::strings_over(&samples::THREE_SYMBOLS, n) {
+                assert_eq!(runs(&symbols), by_definition(&symbols));
+            }
+        }
+        for (kind, symbols) in samples::symbol_kinds(&mut Random::new(8), 1_000) {
+            assert_eq!(runs(&symbols), by_periods(&symbols), "{kind}");
         }
     }
 

@@ -1,6 +1,7 @@
 //! A plain Rust reference for the Lyndon structure of a string. It is written from the definitions of
-//! document 01, and of document 02 for the cabinet, the two counts of comparisons, the runs and masked
-//! letters, and shares no code with the library that it is compared with.
+//! document 01, and of document 02 for the cabinet, the two counts of comparisons, the runs, masked letters
+//! and symbols of 32 bits, and shares no code with the library that it is compared with. Letters of one byte
+//! and symbols of 32 bits go through the same code, and differ in their ranks alone.
 //!
 //! - [`ranks`]: the numbers by which letters compare;
 //! - [`definitions`]: suffixes, tables, tree, reach and Lyndon words, each as defined;

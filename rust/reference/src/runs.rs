@@ -3,7 +3,7 @@
 
 use std::collections::HashSet;
 
-use crate::ranks::same;
+use crate::ranks::{same, Letter};
 
 /// A run. The order is that of the report: by start and then by period.
 #[derive(Debug, Clone, Copy, PartialEq, Eq, PartialOrd, Ord)]
@@ -17,14 +17,14 @@ pub struct Run {
 }
 
 /// Whether letters `period` apart are equal inside `part`.
-fn goes_on(part: &[u8], period: usize) -> bool {
+fn goes_on<L: Letter>(part: &[L], period: usize) -> bool {
     (period..part.len()).all(|k| same(part[k - period], part[k]))
 }
 
 /// "A run is a start, an end (exclusive) and a period p ≥ 1, with length at least 2 × p. Letters p apart
 /// inside it are equal, p is its least period, and neither end can be moved out by one letter with p
 /// kept."
-pub fn is_run(letters: &[u8], run: Run) -> bool {
+pub fn is_run<L: Letter>(letters: &[L], run: Run) -> bool {
     let Run { start, period, end } = run;
     let n = letters.len();
     let inside = start <= end && end <= n;
@@ -39,7 +39,7 @@ pub fn is_run(letters: &[u8], run: Run) -> bool {
 
 /// "The report lists every run of a string once, by start and then by period": each start, period and end
 /// is tried.
-pub fn by_definition(letters: &[u8]) -> Vec<Run> {
+pub fn by_definition<L: Letter>(letters: &[L]) -> Vec<Run> {
     let n = letters.len();
     let mut runs = Vec::new();
     for start in 0..n {
@@ -58,7 +58,7 @@ pub fn by_definition(letters: &[u8]) -> Vec<Run> {
 /// unless the same stretch was found with a shorter period. (With both periods, and at least as many
 /// letters as both together, it has their greatest common divisor as a period, and goes on no farther
 /// with that.)
-pub fn by_periods(letters: &[u8]) -> Vec<Run> {
+pub fn by_periods<L: Letter>(letters: &[L]) -> Vec<Run> {
     let n = letters.len();
     let mut stretches = HashSet::new();
     let mut runs = Vec::new();

@@ -27,7 +27,7 @@ impl Random {
 }
 
 /// Every string of `n` letters of the alphabet.
-pub fn strings_over(alphabet: &[u8], n: usize) -> impl Iterator<Item = Vec<u8>> + '_ {
+pub fn strings_over<L: Copy>(alphabet: &[L], n: usize) -> impl Iterator<Item = Vec<L>> + '_ {
     let base = alphabet.len();
     (0..base.pow(n as u32)).map(move |index| {
         let digits = std::iter::successors(Some(index), move |&rest| Some(rest / base));
@@ -41,7 +41,7 @@ pub fn random_string(random: &mut Random, n: usize, size: usize) -> Vec<u8> {
 }
 
 /// The first `n` letters of a word repeated without end.
-pub fn repeated(word: &[u8], n: usize) -> Vec<u8> {
+pub fn repeated<L: Copy>(word: &[L], n: usize) -> Vec<L> {
     word.iter().copied().cycle().take(n).collect()
 }
 
@@ -122,6 +122,38 @@ pub fn kinds(random: &mut Random, n: usize) -> Vec<(&'static str, Vec<u8>)> {
         ("a word repeated, some letters changed", damaged),
         ("Fibonacci", fibonacci(n)),
         ("Thue-Morse", thue_morse(n)),
+    ]
+}
+
+/// Symbols of 32 bits: the numbers of a and A, which are two symbols, and one that agrees with the second in
+/// all bits but the highest.
+pub const THREE_SYMBOLS: [u32; 3] = [97, 65, 65 + (1 << 31)];
+
+/// Bytes as symbols of 32 bits with the same values.
+pub fn widened(letters: &[u8]) -> Vec<u32> {
+    letters.iter().copied().map(u32::from).collect()
+}
+
+/// The letters a, b, c and d as symbols of 32 bits in the same order. They differ in the two highest bits
+/// alone, so that c and d come first where a symbol is taken as signed.
+pub fn spread(letters: &[u8]) -> Vec<u32> {
+    let symbol = |&letter: &u8| u32::from(letter - b'a') << 30;
+    letters.iter().map(symbol).collect()
+}
+
+/// Named sequences of `n` symbols of 32 bits of different kinds.
+pub fn symbol_kinds(random: &mut Random, n: usize) -> Vec<(&'static str, Vec<u32>)> {
+    let few: Vec<u8> = (0..n).map(|_| b"abcd"[random.below(4)]).collect();
+    let any = (0..n).map(|_| (random.number() >> 32) as u32).collect();
+    vec![
+        ("random, 4 symbols", spread(&few)),
+        ("random, all symbols", any),
+        ("one symbol", repeated(&[u32::MAX], n)),
+        (
+            "a word of 7 symbols repeated",
+            spread(&repeated(b"caddaba", n)),
+        ),
+        ("Fibonacci", spread(&fibonacci(n))),
     ]
 }
 
@@ -217,6 +249,7 @@ mod tests {
         assert_eq!(period_doubling(8), b"abaaabab");
         assert_eq!(ruler(9), b"abacabada");
         assert_eq!(squares(9), b"aabaabbaa");
+        assert_eq!(spread(b"abcd"), [0, 1 << 30, 2 << 30, 3 << 30]);
         assert_eq!(one_root_over_leaves(1), [0b01]);
         assert_eq!(one_root_over_leaves(4), [0b0010_1011]);
         assert_eq!(one_root_over_leaves(5), [0b1010_1011, 0b00]);

@@ -1,6 +1,6 @@
 //! The reuse steps of document 01, written step by step. Letters compare by their ranks.
 
-use crate::ranks::rank;
+use crate::ranks::Letter;
 use crate::Tables;
 
 /// What the steps have written, and what they count.
@@ -27,7 +27,7 @@ struct Settled {
 }
 
 /// Runs rows 0 to `rows` - 1, `rows` at most n.
-pub fn run(letters: &[u8], rows: usize) -> Steps {
+pub fn run<L: Letter>(letters: &[L], rows: usize) -> Steps {
     let n = letters.len();
     let mut steps = Steps {
         previous: vec![None; n],
@@ -65,7 +65,7 @@ impl Steps {
         }
     }
 
-    fn row(&mut self, letters: &[u8], r: usize) {
+    fn row<L: Letter>(&mut self, letters: &[L], r: usize) {
         let mut l = r - 1;
         let mut settled = self.settle(letters, l, r, 0);
         loop {
@@ -99,7 +99,7 @@ impl Steps {
     }
 
     /// Steps 1 and 2.
-    fn settle(&mut self, letters: &[u8], l: usize, r: usize, m: usize) -> Settled {
+    fn settle<L: Letter>(&mut self, letters: &[L], l: usize, r: usize, m: usize) -> Settled {
         let (c, d) = (self.reach, self.shift);
         if r + m >= c {
             return self.scan(letters, l, r, m);
@@ -121,10 +121,10 @@ impl Steps {
     }
 
     /// The scan of step 1.
-    fn scan(&mut self, letters: &[u8], l: usize, r: usize, mut m: usize) -> Settled {
+    fn scan<L: Letter>(&mut self, letters: &[L], l: usize, r: usize, mut m: usize) -> Settled {
         let mut left_is_smaller = false;
         while r + m < letters.len() {
-            let (left, right) = (rank(letters[l + m]), rank(letters[r + m]));
+            let (left, right) = (letters[l + m].rank(), letters[r + m].rank());
             if left != right {
                 self.unequal += 1;
                 left_is_smaller = left < right;
@@ -146,12 +146,11 @@ impl Steps {
 mod tests {
     use super::*;
     use crate::definitions;
-    use crate::samples::strings_over;
+    use crate::samples::{strings_over, THREE_SYMBOLS};
 
-    #[test]
-    fn the_steps_write_the_defined_tables_and_reach() {
-        for n in 0..=7 {
-            for letters in strings_over(b"aAb_", n) {
+    fn check_every_string<L: Letter>(alphabet: &[L], longest: usize) {
+        for n in 0..=longest {
+            for letters in strings_over(alphabet, n) {
                 for rows in 0..=n {
                     let steps = run(&letters, rows);
                     assert_eq!(steps.tables(), definitions::tables(&letters, rows));
@@ -159,5 +158,11 @@ mod tests {
                 }
             }
         }
+    }
+
+    #[test]
+    fn the_steps_write_the_defined_tables_and_reach() {
+        check_every_string(b"aAb_", 7);
+        check_every_string(&THREE_SYMBOLS, 6);
     }
 }

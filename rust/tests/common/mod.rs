@@ -6,8 +6,58 @@
 use std::fmt::Debug;
 
 use lyndon::{raw, Built, Checked, Refusal};
+use reference::fast::{self, Scanned};
 use reference::runs::{self, Run};
-use reference::{fast_brackets, Structure, Tables};
+use reference::samples::Random;
+use reference::{definitions, fast_brackets, Structure, Tables};
+
+/// A build: the letters, the rows, the four tables and the tree.
+pub type Build<L, A> =
+    fn(&[L], usize, &mut [u32], &mut [u32], &mut [u32], &mut [u32], &mut [u8]) -> A;
+
+/// A check: the letters, the claimed table and the four work tables.
+pub type Check<L, A> = fn(&[L], &[u32], &mut [u32], &mut [u32], &mut [u32], &mut [u32]) -> A;
+
+/// A report of runs: the letters, the three lists and the six work tables.
+pub type Report<L> = fn(&[L], [&mut [u32]; 3], [&mut [u32]; 6]) -> raw::Reply;
+
+/// A report of runs by the wrapper: the letters, the three lists and the work memory.
+pub type RunsInto<L> =
+    fn(&[L], &mut [u32], &mut [u32], &mut [u32], &mut [u32]) -> Result<usize, Refusal>;
+
+/// A letter of one byte or a symbol of 32 bits, with the library's functions for it.
+pub trait Letter: Scanned {
+    const BUILD: Build<Self, Result<Built, Refusal>>;
+    const BUILD_RAW: Build<Self, raw::BuildReply>;
+    const WORD: fn(&[Self], usize) -> Result<&[Self], Refusal>;
+    const WORD_RAW: fn(&[Self], usize) -> raw::PartReply;
+    const RUNS: RunsInto<Self>;
+    const RUNS_RAW: Report<Self>;
+    const CHECK: Check<Self, Result<Checked, Refusal>>;
+    const CHECK_RAW: Check<Self, raw::CheckReply>;
+}
+
+impl Letter for u8 {
+    const BUILD: Build<u8, Result<Built, Refusal>> = lyndon::build;
+    const BUILD_RAW: Build<u8, raw::BuildReply> = raw::build;
+    const WORD: fn(&[u8], usize) -> Result<&[u8], Refusal> = lyndon::longest_word;
+    const WORD_RAW: fn(&[u8], usize) -> raw::PartReply = raw::word;
+    const RUNS: RunsInto<u8> = lyndon::runs_into;
+    const RUNS_RAW: Report<u8> = raw::runs;
+    const CHECK: Check<u8, Result<Checked, Refusal>> = lyndon::check_into;
+    const CHECK_RAW: Check<u8, raw::CheckReply> = raw::check;
+}
+
+impl Letter for u32 {
+    const BUILD: Build<u32, Result<Built, Refusal>> = lyndon::build32;
+    const BUILD_RAW: Build<u32, raw::BuildReply> = raw::build32;
+    const WORD: fn(&[u32], usize) -> Result<&[u32], Refusal> = lyndon::longest_word32;
+    const WORD_RAW: fn(&[u32], usize) -> raw::PartReply = raw::word32;
+    const RUNS: RunsInto<u32> = lyndon::runs32_into;
+    const RUNS_RAW: Report<u32> = raw::runs32;
+    const CHECK: Check<u32, Result<Checked, Refusal>> = lyndon::check32_into;
+    const CHECK_RAW: Check<u32, raw::CheckReply> = raw::check32;
+}
 
 /// A question put to a tree: n, the tree's bytes and a position. A refusal is its number.
 pub type Question = fn(usize, &[u8], usize) -> Result<usize, u32>;
@@ -131,21 +181,17 @@ impl Lent {
     }
 
     /// Builds through the safe wrapper.
-    pub fn build(&mut self, letters: &[u8], rows: usize) -> Result<Built, Refusal> {
-        lyndon::build(
-            letters,
-            rows,
-            self.previous.lent(),
-            self.next.lent(),
-            self.previous_match.lent(),
-            self.next_match.lent(),
-            self.tree.lent(),
-        )
+    pub fn build<L: Letter>(&mut self, letters: &[L], rows: usize) -> Result<Built, Refusal> {
+        self.build_by(L::BUILD, letters, rows)
     }
 
     /// Builds through the exported function.
-    pub fn build_raw(&mut self, letters: &[u8], rows: usize) -> raw::BuildReply {
-        raw::build(
+    pub fn build_raw<L: Letter>(&mut self, letters: &[L], rows: usize) -> raw::BuildReply {
+        self.build_by(L::BUILD_RAW, letters, rows)
+    }
+
+    fn build_by<L, A>(&mut self, build: Build<L, A>, letters: &[L], rows: usize) -> A {
+        build(
             letters,
             rows,
             self.previous.lent(),
@@ -176,15 +222,18 @@ impl LentForCheck {
     }
 
     /// Checks through the exported function.
-    pub fn check_raw(&mut self, letters: &[u8], claimed: &[u32]) -> raw::CheckReply {
-        let [previous, next, previous_match, next_match] = self.0.each_mut().map(Guarded::lent);
-        raw::check(letters, claimed, previous, next, previous_match, next_match)
+    pub fn check_raw<L: Letter>(&mut self, letters: &[L], claimed: &[u32]) -> raw::CheckReply {
+        self.check_by(L::CHECK_RAW, letters, claimed)
     }
 
     /// Checks through the safe wrapper.
-    pub fn check(&mut self, letters: &[u8], claimed: &[u32]) -> Result<Checked, Refusal> {
+    pub fn check<L: Letter>(&mut self, letters: &[L], claimed: &[u32]) -> Result<Checked, Refusal> {
+        self.check_by(L::CHECK, letters, claimed)
+    }
+
+    fn check_by<L, A>(&mut self, check: Check<L, A>, letters: &[L], claimed: &[u32]) -> A {
         let [previous, next, previous_match, next_match] = self.0.each_mut().map(Guarded::lent);
-        lyndon::check_into(letters, claimed, previous, next, previous_match, next_match)
+        check(letters, claimed, previous, next, previous_match, next_match)
     }
 
     /// Asserts that the work tables hold these tables.
@@ -204,8 +253,8 @@ impl LentForCheck {
 
 /// Asserts that a check finds what is expected, the least wrong position or none, and that the work tables
 /// hold the tables of the whole string then: by the exported function, and by the wrapper's.
-pub fn assert_check(
-    letters: &[u8],
+pub fn assert_check<L: Letter>(
+    letters: &[L],
     claimed: &[u32],
     expected: Option<usize>,
     tables: &Tables,
@@ -242,8 +291,8 @@ impl LentForRuns {
     }
 
     /// Reports through the exported function.
-    pub fn report_raw(&mut self, letters: &[u8]) -> raw::Reply {
-        raw::runs(
+    pub fn report_raw<L: Letter>(&mut self, letters: &[L]) -> raw::Reply {
+        L::RUNS_RAW(
             letters,
             self.lists.each_mut().map(Guarded::lent),
             self.work.each_mut().map(Guarded::lent),
@@ -261,7 +310,7 @@ impl LentForRuns {
 
 /// Asserts that the report is `expected`, in lists of so many entries, and that the work tables hold 0
 /// then.
-pub fn assert_runs(letters: &[u8], entries: usize, expected: &[Run], fill: Fill) {
+pub fn assert_runs<L: Letter>(letters: &[L], entries: usize, expected: &[Run], fill: Fill) {
     let mut lent = LentForRuns::new([entries; 3], [letters.len(); 6], fill);
     let reply = lent.report_raw(letters);
     let value = expected.len();
@@ -275,8 +324,8 @@ pub fn assert_runs(letters: &[u8], entries: usize, expected: &[Run], fill: Fill)
 
 /// Asserts that the report over memory of these lengths is refused, and that it leaves all of it; or, for
 /// 13, the lists, and clears the work tables.
-pub fn assert_runs_refused(
-    letters: &[u8],
+pub fn assert_runs_refused<L: Letter>(
+    letters: &[L],
     lists: [usize; 3],
     work: [usize; 6],
     number: u32,
@@ -301,7 +350,7 @@ pub fn assert_runs_refused(
 }
 
 /// Asserts that a build of `rows` rows gives the expected answer and leaves the expected memory.
-pub fn assert_build(letters: &[u8], rows: usize, expected: &Structure) {
+pub fn assert_build<L: Letter>(letters: &[L], rows: usize, expected: &Structure) {
     let n = letters.len();
     let mut lent = Lent::new([n; 4], lyndon::tree_length(n), FILLS[rows % 2]);
     let built = lent
@@ -412,13 +461,113 @@ pub fn assert_questions(n: usize, tree: &[u8], position: usize, expected: [Quest
     }
 }
 
-/// Asserts that the longest word at `position` is the expected part of `letters` itself, its bytes as they
-/// stand.
-pub fn assert_word(letters: &[u8], position: usize, expected: &[u8]) {
-    let word = lyndon::longest_word(letters, position).expect("a position inside the string");
+/// Asserts that the longest word at `position` is the expected part of `letters` itself, as they stand.
+pub fn assert_word<L: Letter>(letters: &[L], position: usize, expected: &[L]) {
+    let word = L::WORD(letters, position).expect("a position inside the string");
     assert_eq!(
         word.as_ptr_range(),
         expected.as_ptr_range(),
         "the longest word at {position}"
     );
+}
+
+/// Compares the answers for the string with the definitions: the build at every number of rows, the tree,
+/// the longest word at every position, and the runs.
+pub fn check_by_definitions<L: Letter>(letters: &[L]) {
+    let n = letters.len();
+    for rows in 0..=n {
+        let expected = definitions::build(letters, rows);
+        assert_build(letters, rows, &expected);
+        assert_tree_of_build(n, &expected);
+    }
+    for position in 0..n {
+        assert_word(
+            letters,
+            position,
+            definitions::longest_word(letters, position),
+        );
+    }
+    let expected = runs::by_definition(letters);
+    assert_runs(letters, n, &expected, FILLS[n % 2]);
+}
+
+/// Builds the string whole and with `halts` random numbers of rows, and asks at random positions.
+pub fn check_builds<L: Letter>(random: &mut Random, letters: &[L], halts: usize) {
+    let n = letters.len();
+    let whole = fast::structure(letters, n);
+    assert_build(letters, n, &whole);
+    assert_tree_of_build(n, &whole);
+    for position in [0, n / 2, n - 1]
+        .into_iter()
+        .chain((0..5).map(|_| random.below(n)))
+    {
+        let word = fast::longest_word(letters, position);
+        assert_eq!(word.len(), whole.tables.next[position] as usize - position);
+        assert_word(letters, position, word);
+        assert_questions(n, &whole.tree, position, FAST);
+    }
+    for _ in 0..halts {
+        let rows = random.below(n);
+        let halted = fast::structure(letters, rows);
+        assert_build(letters, rows, &halted);
+        assert_tree_of_build(n, &halted);
+    }
+}
+
+/// Asserts that lists with one entry too few are refused, and that the runs are reported in lists with
+/// just enough entries, with one more, and with one fewer than letters.
+pub fn check_runs<L: Letter>(letters: &[L], expected: &[Run]) {
+    let (n, number) = (letters.len(), expected.len());
+    assert!(number < n.max(1), "fewer runs than letters");
+    for (k, entries) in [number, number + 1, n.saturating_sub(1)]
+        .into_iter()
+        .enumerate()
+    {
+        assert_runs(letters, entries, expected, FILLS[k % 2]);
+    }
+    if number > 0 {
+        let fill = FILLS[number % 2];
+        assert_runs_refused(letters, [number - 1; 3], [n; 6], 13, fill);
+    }
+}
+
+/// The entries that are tried at a position whose right entry is this one.
+pub fn tried(n: usize, right: u32) -> impl Iterator<Item = u32> {
+    let n = n as u32;
+    let tried = [0, n, n + 1, u32::MAX, right.wrapping_sub(1), right + 1];
+    tried.into_iter().filter(move |&entry| entry != right)
+}
+
+/// Asserts that the next table is right, and that each single wrong entry of those tried is found.
+pub fn check_every_entry<L: Letter>(letters: &[L], tables: &Tables) {
+    let n = letters.len();
+    let mut claimed = tables.next.clone();
+    assert_check(letters, &claimed, None, tables, FILLS[n % 2]);
+    for i in 0..n {
+        let right = claimed[i];
+        for (k, entry) in tried(n, right).enumerate() {
+            claimed[i] = entry;
+            assert_check(letters, &claimed, Some(i), tables, FILLS[k % 2]);
+        }
+        claimed[i] = right;
+    }
+}
+
+/// Asserts what is found in the right table, and where the first, a random, the last or two entries are
+/// wrong.
+pub fn check_some_entries<L: Letter>(random: &mut Random, letters: &[L]) {
+    let n = letters.len();
+    let tables = fast::structure(letters, n).tables;
+    let mut claimed = tables.next.clone();
+    assert_check(letters, &claimed, None, &tables, FILLS[0]);
+    let middle = random.below(n);
+    for (k, i) in [0, middle, n - 1].into_iter().enumerate() {
+        let right = claimed[i];
+        claimed[i] = tried(n, right).nth(k).expect("three are tried");
+        assert_check(letters, &claimed, Some(i), &tables, FILLS[k % 2]);
+        claimed[i] = right;
+    }
+    claimed[n - 1] = 0;
+    claimed[middle] = u32::MAX;
+    assert_check(letters, &claimed, Some(middle), &tables, FILLS[1]);
 }

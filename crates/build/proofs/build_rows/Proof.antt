@@ -9,9 +9,8 @@ use Rattle.suffix.specs.Tree.{treeLength, treeBytes}
 use Rattle.suffix.proofs.Rows.{tables-are}
 use Rattle.reuse.specs.Steps.{recordPrevious, recordNext}
 use Rattle.reuse.proofs.Row.{Sizes}
-use Rattle.build.specs.States.{stringOf}
-use Rattle.build.specs.Built.{tablesOf}
-use Rattle.build.specs.States.{stringOf}
+use Rattle.outcome.specs.Built.{tablesOf}
+use Rattle.build.specs.States.{orientedString}
 use Rattle.build.proofs.Strings.{string-length}
 use Rattle.build.proofs.Invariants.{raised, AtRows, AtWalk}
 use Rattle.build.proofs.Invariants as law
@@ -19,18 +18,18 @@ use Rattle.build.proofs.build_rows.Statement.{statement}
 use Rattle.build.proofs.build_rows.Tie as tie
 
 abbrev Inv-walk : tie.InvT-walk
-Inv-walk letters reverse rows previous next₀ previous-match next-match₀ tree n state₀ bit₀ p₀ v₀ r l₀ m₀ known₀ next next-match state bit p v l m known =
-    AtWalk (stringOf reverse letters) rows r state (tablesOf previous next previous-match next-match) tree bit p v l m known
+Inv-walk letters symbols wide reverse n rows previous next₀ previous-match next-match₀ tree state₀ bit₀ p₀ v₀ r l₀ m₀ known₀ next next-match state bit p v l m known =
+    AtWalk (orientedString wide reverse letters symbols) rows r state (tablesOf previous next previous-match next-match) tree bit p v l m known
 
 abbrev μ-walk : tie.MeasureT-walk
-μ-walk letters reverse rows previous next₀ previous-match next-match₀ tree n state₀ bit₀ p₀ v₀ r l₀ m₀ known₀ next next-match state bit p v l m known = l
+μ-walk letters symbols wide reverse n rows previous next₀ previous-match next-match₀ tree state₀ bit₀ p₀ v₀ r l₀ m₀ known₀ next next-match state bit p v l m known = l
 
 abbrev Inv-rows : tie.InvT-rows
-Inv-rows letters reverse rows previous₀ next₀ previous-match₀ next-match₀ tree₀ n state₀ bit₀ p₀ v₀ previous next previous-match next-match tree state bit p v =
-    AtRows (stringOf reverse letters) rows (raised state) (tablesOf previous next previous-match next-match) p v tree bit × (length tree ≡ length tree₀)
+Inv-rows letters symbols wide reverse n rows previous₀ next₀ previous-match₀ next-match₀ tree₀ state₀ bit₀ p₀ v₀ previous next previous-match next-match tree state bit p v =
+    AtRows (orientedString wide reverse letters symbols) rows (raised state) (tablesOf previous next previous-match next-match) p v tree bit × (length tree ≡ length tree₀)
 
 abbrev μ-rows : tie.MeasureT-rows
-μ-rows letters reverse rows previous₀ next₀ previous-match₀ next-match₀ tree₀ n state₀ bit₀ p₀ v₀ previous next previous-match next-match tree state bit p v = rows - state .rows
+μ-rows letters symbols wide reverse n rows previous₀ next₀ previous-match₀ next-match₀ tree₀ state₀ bit₀ p₀ v₀ previous next previous-match next-match tree state bit p v = rows - state .rows
 
 -- ---- the way back: next[l] is recorded, the suffix at r is the smaller, the pair is settled, the head of the walk, the row is recorded, the head of the rows
 
@@ -59,20 +58,20 @@ abbrev rows-head : tie.After-record-entry Inv-walk μ-walk Inv-rows μ-rows → 
 rows-head e = bit-set e .before .before
 
 abbrev rows-start : tie.At-rows Inv-walk μ-walk Inv-rows μ-rows → tie.Start Inv-walk μ-walk Inv-rows μ-rows
-rows-start h = h .before .before .before .before .before .before .before .before
+rows-start h = h .before .before .before .before .before .before .before .before .before
 
 abbrev start : tie.At-walk Inv-walk μ-walk Inv-rows μ-rows → tie.Start Inv-walk μ-walk Inv-rows μ-rows
 start a = rows-start (rows-head (row (pended a)))
 
--- the ranks, as many as the letters
+-- the string, of n ranks
 abbrev y : tie.Start Inv-walk μ-walk Inv-rows μ-rows → List ℕ
-y s = stringOf (s .args .reverse) (s .args .letters .now)
+y s = orientedString (s .args .wide) (s .args .reverse) (s .args .letters .now) (s .args .symbols .now)
 
-same : (s : tie.Start Inv-walk μ-walk Inv-rows μ-rows) → length (y s) ≡ length (s .args .letters .now)
-same s = string-length (s .args .reverse) (s .args .letters .now)
+same : (s : tie.Start Inv-walk μ-walk Inv-rows μ-rows) → length (y s) ≡ s .args .n
+same s = string-length (s .args .wide) (s .args .reverse) (s .args .letters .now) (s .args .symbols .now) ∙ s .pre .0 .0
 
 few : (s : tie.Start Inv-walk μ-walk Inv-rows μ-rows) → length (y s) ≤ 1000000
-few s = omega (arith, same s, s .pre .0 .0)
+few s = omega (arith, same s, s .pre .0 .1)
 
 -- ---- the needs
 
@@ -86,15 +85,15 @@ tree-fits s = rw (same s) (s .pre .1 .1 .0)
 
 returns : tie.Need-returns Inv-walk μ-walk Inv-rows μ-rows
 returns c =
-    let s = c .before .before .before .before .before .before .before in
+    let s = c .before .before .before .before .before .before .before .before in
     let none : s .args .rows ≡ 0 = omega arith in
     rw none
     (rw (sym (same s)) (law.no-rows (y s) _ (sizes s)), (law.no-bits (y s) _ (sizes s) _ (tree-fits s) (s .pre .1 .1 .1), refl))
 
 rows-holds : tie.Need-rows-holds Inv-walk μ-walk Inv-rows μ-rows
 rows-holds c =
-    let s = c .before .before .before .before .before .before .before in
-    (law.first-row (y s) _ (sizes s) _ _ _ (omega arith) (omega (arith, same s, s .pre .0 .1)) (sym (same s)) (tree-fits s) (s .pre .1 .1 .1), refl)
+    let s = c .before .before .before .before .before .before .before .before in
+    (law.first-row (y s) _ (sizes s) _ _ _ (omega arith) (omega (arith, same s, s .pre .0 .2)) (sym (same s)) (tree-fits s) (s .pre .1 .1 .1), refl)
 
 set-bit-requires : tie.Need-set-bit-requires Inv-walk μ-walk Inv-rows μ-rows
 set-bit-requires c κs = law.byte-room (c .before .rows .inv .0)
@@ -110,7 +109,7 @@ record-entry-requires-2 : tie.Need-record-entry-requires-2 Inv-walk μ-walk Inv-
 record-entry-requires-2 c κs =
     let h = rows-head (c .before .before .before .before .before .before) in
     let A = h .rows .inv .0 in
-    let p = rows-start h .pre .0 .0 in
+    let p = rows-start h .pre .0 .1 in
     (omega (arith, A .pos, A .most, A .fits, A .sizes .next), omega (arith, A .pos, A .most, A .fits, A .sizes .nextMatch), omega (arith, p), omega arith)
 
 -- the entries of the row are recorded
@@ -122,20 +121,21 @@ unfolding recordPrevious recordNext
 row-recorded e =
     let h = rows-head (row e) .rows in
     let s = rows-start (rows-head (row e)) in
-    let pending : e .record-entry2 .last .0 ≡ set (h .next) (h .state .rows + 1 - 1) (length (s .args .letters .now)) = e .record-entry2 .ensures .0 in
+    let pending : e .record-entry2 .last .0 ≡ set (h .next) (h .state .rows + 1 - 1) (s .args .n) = e .record-entry2 .ensures .0 in
     rw (same s) (tables-are (row e .record-entry .ensures .0) pending (row e .record-entry .ensures .1) (e .record-entry2 .ensures .1))
 
 walk-holds : tie.Need-walk-holds Inv-walk μ-walk Inv-rows μ-rows
 walk-holds c =
     let e = c .before .before .before .before .before in
-    law.begins (rows-head (row e) .rows .inv .0) (c .if2 .left) (row-recorded e) (bit-set (row e) .set-bit .ensures)
+    law.begins (rows-head (row e) .rows .inv .0) (omega (arith, rows-head (row e) .rows .inv .0 .most, c .if2 .left)) (row-recorded e) (bit-set (row e) .set-bit .ensures)
 
 settle-requires : tie.Need-settle-requires Inv-walk μ-walk Inv-rows μ-rows
 settle-requires c κs =
     let a = c .before .before .before in
     let s = start a in
     let S = a .walk .inv .sizes in
-    (s .pre .0 .0, ((S .next ∙ same s, S .previousMatch ∙ same s, S .nextMatch ∙ same s), rw (sym (same s)) (law.safe (a .walk .inv))))
+    let e = same s in
+    ((s .pre .0 .0, s .pre .0 .1), ((S .next ∙ e, S .previousMatch ∙ e, S .nextMatch ∙ e), rw e at (law.safe (a .walk .inv))))
 
 record-entry-requires-3 : tie.Need-record-entry-requires-3 Inv-walk μ-walk Inv-rows μ-rows
 record-entry-requires-3 c κs = let S = settled (c .before .before) in law.next-fits (head S .walk .inv) (S .settle .result) (S .settle .ensures) (few (start (head S)))

@@ -1,4 +1,5 @@
 -- `lyndon::lyndon_build` meets its contract.
+use borrow.Author.Needs.{needs}
 use Rattle.lyndon.proofs.lyndon_build.Statement.{statement}
 use Rattle.lyndon.proofs.lyndon_build.Tie as tie
 
@@ -9,6 +10,7 @@ pub lyndon-build-spec : {M : Type 1} → statement M
 lyndon-build-spec =
     tie.close
     (tie.spec
+    (λ c. search needs)
     (λ c κs. tt)
     (λ c κs. tt)
     (λ c. c .before .before .before .before .before .before .before .before .before .before .previous .given)

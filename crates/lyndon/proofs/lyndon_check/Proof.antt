@@ -1,4 +1,5 @@
 -- `lyndon::lyndon_check` meets its contract.
+use borrow.Author.Needs.{needs}
 use Rattle.lyndon.proofs.lyndon_check.Statement.{statement}
 use Rattle.lyndon.proofs.lyndon_check.Tie as tie
 
@@ -9,6 +10,7 @@ pub lyndon-check-spec : {M : Type 1} → statement M
 lyndon-check-spec =
     tie.close
     (tie.spec
+    (λ c. search needs)
     (λ c κs. tt)
     (λ c κs. tt)
     (λ c. c .before .before .before .before .before .before .before .before .previous .given)

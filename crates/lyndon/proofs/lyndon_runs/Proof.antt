@@ -1,4 +1,5 @@
 -- `lyndon::lyndon_runs` meets its contract.
+use borrow.Author.Needs.{needs}
 use Rattle.lyndon.proofs.lyndon_runs.Statement.{statement}
 use Rattle.lyndon.proofs.lyndon_runs.Tie as tie
 
@@ -9,6 +10,7 @@ pub lyndon-runs-spec : {M : Type 1} → statement M
 lyndon-runs-spec =
     tie.close
     (tie.spec
+    (λ c. search needs)
     (λ c κs. tt)
     (λ c κs. tt)
     (λ c. c .before .before .before .before .before .before .starts .given)

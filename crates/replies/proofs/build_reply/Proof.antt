@@ -1,7 +1,7 @@
 -- `replies::build_reply` meets its contract.
 use mathlib.Core.Path.{sym, ap, _∙_}
-use Rattle.build.specs.Built.{figuresOf, refused}
-use Rattle.build.specs.declared.Built.{Built}
+use Rattle.outcome.specs.Built.{figuresOf, refused}
+use Rattle.outcome.specs.declared.Built.{Built}
 use Rattle.replies.specs.declared.BuildReply.{BuildReply}
 use Rattle.replies.specs.Replies.{buildReply}
 use Rattle.replies.proofs.build_reply.Statement.{statement}

@@ -3,7 +3,6 @@ use mathlib.Core.Path.{sym, _∙_}
 use mathlib.Core.Bool.{true≢false}
 use native.Mathlib.Omega.{arith}
 use borrow.Author.Needs.{needs}
-use Rattle.suffix.proofs.Ranks.{ranks-length}
 use Rattle.roots.proofs.Judging.{judged-no, judged-yes}
 use Rattle.roots.proofs.accepted_left.Statement.{statement}
 use Rattle.roots.proofs.accepted_left.Tie as tie
@@ -19,13 +18,13 @@ returns-3 c = let x = c .before .before .before .left-of .ensures in judged-no _
 
 returns-4 : tie.Need-returns-4
 returns-4 c =
-    let s = c .before .before .before .before .before .before .before in
-    judged-no _ _ _ _ _ (λ A. omega (arith, A .ends (c .before .if4 .taken), ranks-length (s .args .letters .now)))
+    let s = c .before .before .before .before .before .before .before .before in
+    judged-no _ _ _ _ _ (λ A. omega (arith, A .ends (c .before .if4 .taken), s .pre .0))
 
 returns-5 : tie.Need-returns-5
 returns-5 c =
-    let s = c .before .before .before .before .before .before .before in
-    judged-yes _ _ _ _ _ _ (c .before .before .before .before .before .left-of .ensures) (omega arith) (omega arith) (omega arith) (λ e. omega (arith, ranks-length (s .args .letters .now)))
+    let s = c .before .before .before .before .before .before .before .before in
+    judged-yes _ _ _ _ _ _ (c .before .before .before .before .before .left-of .ensures) (omega arith) (omega arith) (omega arith) (λ e. omega (arith, s .pre .0))
 
 returns-6 : tie.Need-returns-6
 returns-6 c = judged-yes _ _ _ _ _ _ (c .before .before .before .before .left-of .ensures) (omega arith) (omega arith) (omega arith) (λ e. absurd (true≢false (sym e ∙ c .if4 .left)))

@@ -5,9 +5,9 @@ use mathlib.Core.List.{List}
 use Prim.Native.Nat.{ℕ, _-_, _<_}
 use native.Mathlib.Omega.{arith}
 use lib.ListN.{length}
-use Rattle.suffix.specs.Ranks.{ranks, greatestRank, oriented}
+use Rattle.suffix.specs.Ranks.{stringOf, greatestRank, oriented}
 use Rattle.suffix.specs.Nearest.{next, nextMatch}
-use Rattle.suffix.proofs.Ranks.{ranks-length, ranks-most}
+use Rattle.suffix.proofs.Ranks.{string-most}
 use Rattle.repeats.specs.Roots.{AtMost}
 use Rattle.repeats.specs.Gathered.{reportAt}
 use Rattle.repeats.specs.Refusals.{lists}
@@ -18,24 +18,26 @@ use Rattle.roots.proofs.collect.Statement.{statement}
 use Rattle.roots.proofs.collect.Tie as tie
 
 abbrev Inv-loop : tie.InvT-loop
-Inv-loop letters starts₀ ends₀ periods₀ next-match reverse-next reverse-match count₀ i₀ starts ends periods count i = Gathering (ranks letters) i count (lists starts ends periods)
+Inv-loop letters symbols wide n starts₀ ends₀ periods₀ next-match reverse-next reverse-match count₀ i₀ starts ends periods count i = Gathering (stringOf wide letters symbols) i count (lists starts ends periods)
 
 abbrev μ-loop : tie.MeasureT-loop
-μ-loop letters starts₀ ends₀ periods₀ next-match reverse-next reverse-match count₀ i₀ starts ends periods count i = length letters - i
+μ-loop letters symbols wide n starts₀ ends₀ periods₀ next-match reverse-next reverse-match count₀ i₀ starts ends periods count i = n - i
 
 abbrev start : tie.At-loop Inv-loop μ-loop → tie.Start Inv-loop μ-loop
-start m = m .before .before .before .before .before .before .before .before
+start m = m .before .before .before .before .before .before .before .before .before
 
--- the ranks, as many as the letters
+-- the string, of n ranks that are below 2 ^ 32
 abbrev string : tie.At-loop Inv-loop μ-loop → List ℕ
-string m = ranks (start m .args .letters .now)
+string m = let g = start m .args in stringOf (g .wide) (g .letters .now) (g .symbols .now)
 
-same : (m : tie.At-loop Inv-loop μ-loop) → length (string m) ≡ length (start m .args .letters .now)
-same m = ranks-length (start m .args .letters .now)
+same : (m : tie.At-loop Inv-loop μ-loop) → length (string m) ≡ start m .args .n
+same m = start m .pre .0 .0
 
-bytes : (m : tie.At-loop Inv-loop μ-loop) → AtMost greatestRank (string m)
-bytes m =
-    record { at = ranks-most (start m .args .letters .now) (λ i h. omega (arith, m .before .before .before .before .before .before .before .shared-slice-known .given i)) }
+below : (m : tie.At-loop Inv-loop μ-loop) → AtMost greatestRank (string m)
+below m =
+    let k = m .before .before .before .before .before .before .before in
+    let g = start m .args in
+    record { at = string-most (g .wide) (g .letters .now) (g .symbols .now) (λ i h. omega (arith, k .before .shared-slice-known .given i)) (λ i h. omega (arith, k .shared-slice-known2 .given i)) }
 
 -- what is read at place i
 module _ (q : tie.After-read4 Inv-loop μ-loop) where
@@ -63,7 +65,7 @@ module _ (q : tie.After-read4 Inv-loop μ-loop) where
   second-match : q .read4 .result ≡ nextMatch (oriented true y) i
   second-match = q .read4 .ensures ∙ match-entry (start at .pre .1 .1) i inside
 
-  within : (o : Bool) {j m : ℕ} → j ≡ next (oriented o y) i → m ≡ nextMatch (oriented o y) i → Within (length (start at .args .letters .now)) i j m
+  within : (o : Bool) {j m : ℕ} → j ≡ next (oriented o y) i → m ≡ nextMatch (oriented o y) i → Within (start at .args .n) i j m
   within o a b = rw (same at) at (within-next y o i inside a b)
 
 reported : (r : tie.After-report-of Inv-loop μ-loop) → let q = r .before in runOf (r .report-of .result) ≡ reportAt greatestRank (y q) (i q)
@@ -71,21 +73,21 @@ reported r = let q = r .before in report-read (y q) (i q) (r .report-of .ensures
 
 report-of-requires : tie.Need-report-of-requires Inv-loop μ-loop
 report-of-requires c κs =
-    (within c false (first c) (first-match c), within c true (second c) (second-match c), start (at c) .pre .0 .0)
+    (same (at c), within c false (first c) (first-match c), within c true (second c) (second-match c), start (at c) .pre .0 .1)
 
 insert-requires : tie.Need-insert-requires Inv-loop μ-loop
 insert-requires c κs =
     let r = c .before .before .before in
     let q = r .before in
     let m = at q in
-    ((gathering-has (bytes m) (m .loop .inv) (inside q), omega (arith, m .loop .inv .few, inside q, same m, start m .pre .0 .0)), insertable (bytes m) (m .loop .inv) (inside q) _ (reported r))
+    ((gathering-has (below m) (m .loop .inv) (inside q), omega (arith, m .loop .inv .few, inside q, same m, start m .pre .0 .1)), insertable (below m) (m .loop .inv) (inside q) _ (reported r))
 
 loop-again : tie.Need-loop-again Inv-loop μ-loop
 loop-again c =
     let r = c .before .before .before .before .before .before .before .before .before .before in
     let q = r .before in
     let m = at q in
-    gathering-more (bytes m) (m .loop .inv) (inside q) _ (reported r) _ _ (c .before .before .before .before .before .before .insert .ensures) (c .before .before .before .before .before .starts .given) (c .before .before .before .ends .given) (c .before .periods .given)
+    gathering-more (below m) (m .loop .inv) (inside q) _ (reported r) _ _ (c .before .before .before .before .before .before .insert .ensures) (c .before .before .before .before .before .starts .given) (c .before .before .before .ends .given) (c .before .periods .given)
 
 -- the loop is left, and 0 is written behind the runs
 abbrev left : tie.After-clear-three Inv-loop μ-loop → tie.After-loop Inv-loop μ-loop
@@ -94,12 +96,12 @@ left d = d .before .before .before .before
 same-length : tie.Need-same-length Inv-loop μ-loop
 same-length c =
     let m = left (c .before .before .before .before .before .before) .before in
-    c .before .before .before .before .before .starts2 .given ∙ m .loop .inv .starts ∙ same m ∙ sym (start m .pre .0 .1)
+    c .before .before .before .before .before .starts2 .given ∙ m .loop .inv .starts ∙ same m ∙ sym (start m .pre .0 .2)
 
 same-length-2 : tie.Need-same-length-2 Inv-loop μ-loop
 same-length-2 c =
     let m = left (c .before .before .before .before .before .before) .before in
-    c .before .before .before .ends2 .given ∙ m .loop .inv .ends ∙ same m ∙ sym (start m .pre .0 .2)
+    c .before .before .before .ends2 .given ∙ m .loop .inv .ends ∙ same m ∙ sym (start m .pre .0 .3)
 
 same-length-3 : tie.Need-same-length-3 Inv-loop μ-loop
 same-length-3 c =
@@ -111,7 +113,7 @@ returns c =
     let d = c .before .before .before .before .before .before in
     let m = left d .before in
     let I = m .loop .inv in
-    listed (lists (m .loop .starts) (m .loop .ends) (m .loop .periods)) (gathering-done (bytes m) I (omega (arith, same m, left d .loop-test .left))) (I .starts ∙ same m) (I .ends ∙ same m) (I .periods ∙ same m) (d .clear-three .ensures) (omega arith)
+    listed (lists (m .loop .starts) (m .loop .ends) (m .loop .periods)) (gathering-done (below m) I (omega (arith, same m, left d .loop-test .left))) (I .starts ∙ same m) (I .ends ∙ same m) (I .periods ∙ same m) (d .clear-three .ensures) (omega arith)
 
 pub collect-spec : {M : Type 1} → statement M
 collect-spec =
@@ -120,16 +122,16 @@ collect-spec =
     Inv-loop
     μ-loop
     (λ c.
-    let s = c .before .before .before .before .before .before .before in
-    let e = sym (ranks-length (s .args .letters .now)) in
-    gathering-none (s .pre .1 .0) (s .pre .0 .1 ∙ e) (s .pre .0 .2 ∙ e))
+    let s = c .before .before .before .before .before .before .before .before in
+    let e = sym (s .pre .0 .0) in
+    gathering-none (s .pre .1 .0) (s .pre .0 .2 ∙ e) (s .pre .0 .3 ∙ e))
     (λ c κs. let m = c .before .before in omega (arith, m .loop .inv .periods, same m, c .before .loop-test .taken))
     (λ c κs. let m = c .before .before .before in omega (arith, matches-length (start m .pre .1 .0), same m, c .before .before .loop-test .taken))
     (λ c κs. let m = c .before .before .before .before in omega (arith, nexts-length (start m .pre .1 .1), same m, c .before .before .before .loop-test .taken))
     (λ c κs. let m = c .before .before .before .before .before in omega (arith, matches-length (start m .pre .1 .1), same m, c .before .before .before .before .loop-test .taken))
     report-of-requires
     insert-requires
-    (λ c. omega arith)
+    (λ c. let q = c .before .before .before .before .before .before .before .before .before .before .before in omega (arith, inside q, same (at q), start (at q) .pre .0 .1))
     (λ c. omega arith)
     loop-again
     (λ c κs. tt)

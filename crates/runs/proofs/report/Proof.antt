@@ -4,8 +4,7 @@ use mathlib.Core.List.{List, map}
 use Prim.Native.Nat.{ℕ}
 use native.Mathlib.Omega.{arith}
 use lib.ListN.{length}
-use Rattle.suffix.specs.Ranks.{ranks}
-use Rattle.suffix.proofs.Ranks.{ranks-length}
+use Rattle.suffix.specs.Ranks.{stringOf}
 use Rattle.repeats.specs.Refusals.{Lists, lengthsRefusal, lists}
 use Rattle.roots.specs.WorkTables.{workRefusal}
 use Rattle.roots.proofs.Refusing as roots
@@ -19,7 +18,7 @@ use Rattle.runs.proofs.report.Tie as tie
 -- ---- what is lent
 
 abbrev y : tie.Start → List ℕ
-y s = ranks (s .args .letters .now)
+y s = stringOf (s .args .wide) (s .args .letters .now) (s .args .symbols .now)
 
 abbrev work : tie.Start → List (List ℕ)
 work s = let g = s .args in workOf (g .previous .now) (g .next .now) (g .previous-match .now) (g .next-match .now) (g .reverse-next .now) (g .reverse-match .now)
@@ -30,9 +29,12 @@ lent s = let g = s .args in lists (g .starts .now) (g .ends .now) (g .periods .n
 abbrev refusal : tie.Start → ℕ → ℕ
 refusal s n = lengthsRefusal n (map length (work s)) (length (lent s .starts)) (length (lent s .ends)) (length (lent s .periods))
 
--- as many ranks as letters
-same : (s : tie.Start) → refusal s (length (s .args .letters .now)) ≡ refusal s (length (y s))
-same s = ap (refusal s) (sym (ranks-length (s .args .letters .now)))
+-- n ranks
+abbrev at : tie.After-string-length → tie.Start
+at k = k .before .before .before .before .before .before .before .before .before .before .before .before
+
+same : (k : tie.After-string-length) → refusal (at k) (k .string-length .result) ≡ refusal (at k) (length (y (at k)))
+same k = ap (refusal (at k)) (k .string-length .ensures)
 
 -- ---- the way back: all is cleared, the lists are written, the runs are counted and gathered, nothing is refused
 
@@ -51,20 +53,22 @@ call q = q .before .before .before .before .before .before .before .before .befo
 abbrev passed : tie.After-gather → tie.Else4
 passed g = g .before .before .before .before .before .before .before
 
-abbrev tested : tie.Else2 → tie.Start
-tested o = o .before .before .before .before .before .before .before .before .before .before .before .before .before
+abbrev measured : tie.Else2 → tie.After-string-length
+measured o = o .before .before .before
 
 abbrev start : tie.Else4 → tie.Start
-start e = tested (e .before .before)
+start e = at (measured (e .before .before))
 
-none : (o : tie.Else2) → let s = tested o in workRefusal (length (s .args .letters .now)) (map length (work s)) ≡ 0
-none o = let s = tested o in sym (roots.says-none (length (s .args .letters .now)) (map length (work s)) (omega arith) (o .before .any-off .ensures) (o .if2 .left) (omega arith))
+none : (o : tie.Else2) → workRefusal (measured o .string-length .result) (map length (work (at (measured o)))) ≡ 0
+none o =
+    let k = measured o in
+    sym (roots.says-none (k .string-length .result) (map length (work (at k))) (omega arith) (o .before .any-off .ensures) (o .if2 .left) (omega arith))
 
 taken : (e : tie.Else4) → let s = start e in refusal s (length (y s)) ≡ 0
-taken e = let s = start e in sym (same s) ∙ sym (says-none _ _ _ _ _ (none (e .before .before)) (omega arith) (omega arith) (omega arith))
+taken e = sym (same (measured (e .before .before))) ∙ sym (says-none _ _ _ _ _ (none (e .before .before)) (omega arith) (omega arith) (omega arith))
 
 -- the tables that hold the runs, and 0 beyond them
-ended : (v : tie.After-value-of) → let u = call (gathered v) .gather .last .1 in let k = v .value-of .result in Ended k (u .0) × Ended k (u .1 .0) × Ended k (u .1 .1 .0)
+ended : (v : tie.After-value-of) → let u = call (gathered v) .gather .last .1 .1 .1 in let k = v .value-of .result in Ended k (u .0) × Ended k (u .1 .0) × Ended k (u .1 .1 .0)
 ended v =
     let g = call (gathered v) in
     let e = passed g in
@@ -75,24 +79,28 @@ ended v =
 
 returns : tie.Need-returns
 returns c =
-    let s = c .before .before .before .before .before .before .before .before .before .before .before in
-    refused-by-lengths (y s) (work s) (lent s) _ (omega arith) (says-work _ _ _ _ _ (omega arith) (roots.says-one (length (s .args .letters .now)) (map length (work s)) (omega arith) (omega arith)) ∙ same s)
+    let k = c .before in
+    let s = at k in
+    refused-by-lengths (y s) (work s) (lent s) _ (omega arith) (says-work _ _ _ _ _ (omega arith) (roots.says-one (k .string-length .result) (map length (work s)) (omega arith) (omega arith)) ∙ same k)
 
 returns-2 : tie.Need-returns-2
 returns-2 c =
-    let s = c .before .before .before .before .before .before .before .before .before .before .before .before .before in
+    let k = c .before .before .before in
+    let s = at k in
     refused-by-lengths (y s) (work s) (lent s) _ (omega arith)
-    (says-work _ _ _ _ _ (omega arith) (roots.says-two (length (s .args .letters .now)) (map length (work s)) (omega arith) (c .before .any-off .ensures) (c .if2 .taken) (omega arith)) ∙ same s)
+    (says-work _ _ _ _ _ (omega arith) (roots.says-two (k .string-length .result) (map length (work s)) (omega arith) (c .before .any-off .ensures) (c .if2 .taken) (omega arith)) ∙ same k)
 
 returns-3 : tie.Need-returns-3
 returns-3 c =
-    let s = tested (c .before) in
-    refused-by-lengths (y s) (work s) (lent s) _ (omega arith) (says-twelve _ _ _ _ _ (none (c .before)) (omega arith) (omega arith) ∙ same s)
+    let k = measured (c .before) in
+    let s = at k in
+    refused-by-lengths (y s) (work s) (lent s) _ (omega arith) (says-twelve _ _ _ _ _ (none (c .before)) (omega arith) (omega arith) ∙ same k)
 
 returns-4 : tie.Need-returns-4
 returns-4 c =
-    let s = tested (c .before .before) in
-    refused-by-lengths (y s) (work s) (lent s) _ (omega arith) (says-twelve-too _ _ _ _ _ (none (c .before .before)) (omega arith) (omega arith) (omega arith) ∙ same s)
+    let k = measured (c .before .before) in
+    let s = at k in
+    refused-by-lengths (y s) (work s) (lent s) _ (omega arith) (says-twelve-too _ _ _ _ _ (none (c .before .before)) (omega arith) (omega arith) (omega arith) ∙ same k)
 
 write-lists-requires : tie.Need-write-lists-requires
 write-lists-requires c κs =
@@ -125,6 +133,7 @@ pub report-spec : {M : Type 1} → statement M
 report-spec =
     tie.close
     (tie.spec
+    (λ c κs. tt)
     returns
     (λ c κs. tt)
     returns-2

@@ -3,8 +3,8 @@ use mathlib.Core.Path.{ap}
 use Prim.Native.Nat.{ℕ}
 use native.Mathlib.Omega.{arith}
 use borrow.Author.Needs.{needs}
-use Rattle.build.specs.declared.Built.{Built}
-use Rattle.build.specs.Built.{figuresOf}
+use Rattle.outcome.specs.declared.Built.{Built}
+use Rattle.outcome.specs.Built.{figuresOf}
 use Rattle.tables_text.specs.Buffers.{countOf}
 use Rattle.tables_text.proofs.count.Statement.{statement}
 use Rattle.tables_text.proofs.count.Tie as tie

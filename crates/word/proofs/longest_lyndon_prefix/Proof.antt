@@ -1,68 +1,46 @@
 -- `word::longest_lyndon_prefix` meets its contract.
-use mathlib.Core.Path.{_≡_, sym, _∙_}
 use mathlib.Core.Logic.{⊎-elim}
 use mathlib.Core.List.{List}
-use Prim.Native.Nat.{ℕ, _-_, _≤_, _<_}
+use Prim.Native.Nat.{ℕ, _-_, _≤_}
 use native.Mathlib.Omega.{arith}
-use lib.ListN.{length, getD}
-use Rattle.suffix.specs.Ranks.{rank, ranks}
-use Rattle.suffix.proofs.Ranks.{ranks-length, ranks-entry, ranks-same}
+use Rattle.suffix.specs.Ranks.{stringOf}
 use Rattle.suffix.proofs.Order.{extended}
 use Rattle.word.proofs.Duval.{Repeats, repeats-one, letter-equal, letter-greater, letter-smaller, string-ends}
+use Rattle.suffix.proofs.Tests.{tests}
 use Rattle.word.proofs.longest_lyndon_prefix.Statement.{statement}
 use Rattle.word.proofs.longest_lyndon_prefix.Tie as tie
 
 abbrev Inv-loop : tie.InvT-loop
-Inv-loop s n k₀ j₀ k j = (j ≤ length s) × Repeats (extended (ranks s)) k j
+Inv-loop letters symbols wide n k₀ j₀ k j = (j ≤ n) × Repeats (extended (stringOf wide letters symbols)) k j
 
 abbrev μ-loop : tie.MeasureT-loop
-μ-loop s n k₀ j₀ k j = length s - j
+μ-loop letters symbols wide n k₀ j₀ k j = n - j
 
 loop-holds : tie.Need-loop-holds Inv-loop μ-loop
-loop-holds c = (omega arith, repeats-one (extended (ranks (c .before .args .s .now))))
+loop-holds c = (omega arith, repeats-one _)
 
--- both letters are read
-module _ (d : tie.After-shared-slice-known3 Inv-loop μ-loop) where
-  abbrev l : tie.At-loop Inv-loop μ-loop
-  l = d .before .before .before
-
-  abbrev s : List ℕ
-  s = l .before .before .args .s .now
-
-  more : l .loop .j < length (ranks s)
-  more = omega (arith, ranks-length s)
-
-  -- their ranks
-  at-k : {r : ℕ} → r ≡ rank (getD s (l .loop .k) 0) → r ≡ getD (ranks s) (l .loop .k) 0
-  at-k p = p ∙ sym (ranks-entry s (l .loop .k) (omega arith))
-
-  at-j : {r : ℕ} → r ≡ rank (getD s (l .loop .j) 0) → r ≡ getD (ranks s) (l .loop .j) 0
-  at-j p = p ∙ sym (ranks-entry s (l .loop .j) (omega arith))
-
-  same : getD s (l .loop .k) 0 ≡ getD s (l .loop .j) 0 → getD (ranks s) (l .loop .k) 0 ≡ getD (ranks s) (l .loop .j) 0
-  same e = ranks-same s (l .loop .k) (l .loop .j) (omega arith) (omega arith) e
+-- the string
+abbrev y : tie.At-loop Inv-loop μ-loop → List ℕ
+y l = let g = l .before .before .before .before .args in stringOf (g .wide) (g .letters .now) (g .symbols .now)
 
 returns : tie.Need-returns Inv-loop μ-loop
 returns c =
-    let d = c .before .before .before .before in
-    letter-smaller (ranks (s d)) (l d .loop .inv .1) (more d) (omega (arith, at-k d (c .before .before .rank .ensures), at-j d (c .before .rank2 .ensures)))
+    let l = c .before .before .before .before .before in
+    letter-smaller (y l) (l .loop .inv .1) (omega arith) (omega (tests, rw (c .before .smaller-at .ensures) at (c .if2 .taken)))
 
 loop-again : tie.Need-loop-again Inv-loop μ-loop
 loop-again c =
-    let d = c .before in
-    let y = ranks (s d) in
-    let r = l d .loop .inv .1 in (
+    let l = c .before .before .before in
+    let same = c .before .same-at .ensures in
+    let r = l .loop .inv .1 in (
       omega arith,
-      ⊎-elim (λ w. rw (w .1) (letter-equal y r (more d) (omega (arith, same d (w .0 .taken)))))
-          (⊎-elim (λ w. rw (w .5) (letter-greater y r (more d) (omega (arith, at-k d (w .1 .ensures), at-j d (w .2 .ensures)))))
-          (λ w. rw (w .5) (letter-equal y r (more d) (omega (arith, at-k d (w .1 .ensures), at-j d (w .2 .ensures))))))
+      ⊎-elim (λ w. rw (w .1) (letter-equal (y l) r (omega arith) (omega (tests, rw same at (w .0 .taken)))))
+          (λ w. rw (w .3) (letter-greater (y l) r (omega arith) (omega (tests, rw same at (w .0 .left), rw (w .1 .ensures) at (w .2 .left)))))
           (c .if1 .came),
     )
 
 returns-2 : tie.Need-returns-2 Inv-loop μ-loop
-returns-2 c =
-    let s = c .before .before .before .args .s .now in
-    omega (arith, string-ends (ranks s) (c .before .loop .inv .1) (omega (arith, ranks-length s)))
+returns-2 c = omega (arith, string-ends (y (c .before)) (c .before .loop .inv .1) (omega arith))
 
 pub longest-lyndon-prefix-spec : {M : Type 1} → statement M
 longest-lyndon-prefix-spec =
@@ -70,15 +48,13 @@ longest-lyndon-prefix-spec =
     (tie.spec
     Inv-loop
     μ-loop
+    (λ c κs. tt)
     loop-holds
+    (λ c κs. (omega arith, omega arith))
     (λ c. omega arith)
-    (λ c. omega arith)
-    (λ c. omega arith)
-    (λ c κs. tt)
-    (λ c κs. tt)
+    (λ c κs. (omega arith, omega arith))
     (λ c. omega arith)
     returns
-    (λ c. omega arith)
     (λ c. omega arith)
     (λ c. omega arith)
     loop-again

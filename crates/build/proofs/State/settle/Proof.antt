@@ -4,33 +4,31 @@ use mathlib.Core.Logic.{⊎-elim}
 use mathlib.Core.List.{[]}
 use Prim.Native.Nat.{ℕ, _+_, _≤_}
 use native.Mathlib.Omega.{arith}
-use lib.ListN.{length}
 use Rattle.reuse.specs.Steps.{scanned, scanFrom}
 use Rattle.reuse.proofs.Settle.{reuse-copy, reuse-scan}
-use Rattle.build.specs.States.{stringOf, progressOf, Safe, settledFrom}
-use Rattle.build.specs.Built.{tablesOf}
-use Rattle.build.specs.States.{stringOf, progressOf, Safe, settledFrom}
+use Rattle.outcome.specs.Built.{tablesOf}
+use Rattle.build.specs.States.{orientedString, progressOf, Safe, settledFrom}
 use Rattle.build.proofs.Settling.{scans, by-next, by-previous}
 use Rattle.build.proofs.State.settle.Statement.{statement}
 use Rattle.build.proofs.State.settle.Tie as tie
 
 abbrev start : tie.Else1 → tie.Start
-start e = e .before .before .before .before .before
+start e = e .before .before .before .before .before .before
 
-safe : (e : tie.Else1) → let g = start e .args in Safe (length (g .letters .now)) (progressOf (g .self)) (g .l) (g .r) (g .m)
+safe : (e : tie.Else1) → let g = start e .args in Safe (g .n) (progressOf (g .self)) (g .l) (g .r) (g .m)
 safe e = start e .pre .1 .1 (e .if1 .left)
 
 -- step 2 looks at places of the string
-low : (t : tie.Then2) → let g = start (t .before .before) .args in Safe (length (g .letters .now)) (progressOf (g .self)) (g .l) (g .r) (g .m) × (g .self .shift ≤ g .l)
+low : (t : tie.Then2) → let g = start (t .before .before) .args in Safe (g .n) (progressOf (g .self)) (g .l) (g .r) (g .m) × (g .self .shift ≤ g .l)
 low t = let s = safe (t .before .before) in (s, s .shift (t .if2 .taken))
 
 -- where the scan starts
 record From (e : tie.Else1) (k : ℕ) : Type 0 where
-  fits : let g = start e .args in g .r + k ≤ length (g .letters .now)
+  fits : let g = start e .args in g .r + k ≤ g .n
   is :
       let g = start e .args in
-      settledFrom (g .known) (stringOf (g .reverse) (g .letters .now)) (progressOf (g .self)) (tablesOf [] (g .next .now) (g .previous-match .now) (g .next-match .now)) (g .l) (g .r) (g .m)
-      ≡ scanFrom (stringOf (g .reverse) (g .letters .now)) (progressOf (g .self)) (g .l) (g .r) k
+      settledFrom (g .known) (orientedString (g .wide) (g .reverse) (g .letters .now) (g .symbols .now)) (progressOf (g .self)) (tablesOf [] (g .next .now) (g .previous-match .now) (g .next-match .now)) (g .l) (g .r) (g .m)
+      ≡ scanFrom (orientedString (g .wide) (g .reverse) (g .letters .now) (g .symbols .now)) (progressOf (g .self)) (g .l) (g .r) k
 
 from-is : (c : tie.Joined2) → From (c .before .before) (c .if2 .from)
 from-is c =
@@ -73,7 +71,7 @@ returns-4 : tie.Need-returns-4
 unfolding scanFrom
 returns-4 c =
     let g = start (c .before .before .before .before) .args in
-    (c .stop .ensures .0 ∙ ap (scanned (g .l) (g .r)) (c .before .scan .ensures .0) ∙ sym (from-is (c .before .before) .is), c .stop .ensures .1)
+    (c .stop .ensures .0 ∙ ap (scanned (g .l) (g .r)) (c .before .scan .ensures .reports) ∙ sym (from-is (c .before .before) .is), c .stop .ensures .1)
 
 pub settle-spec : {M : Type 1} → statement M
 settle-spec =
@@ -90,6 +88,6 @@ settle-spec =
     (λ c. let s = low (c .before .before .before .before .before) in omega arith)
     returns-3
     (λ c. omega arith)
-    (λ c κs. let s = safe (c .before .before) in (s .before, from-is c .fits, omega arith, omega arith, omega arith))
-    (λ c κs. let s = safe (c .before .before .before) in (s .before, omega arith))
+    (λ c κs. let e = c .before .before in let s = safe e in (start e .pre .0 .0, start e .pre .0 .1, s .before, from-is c .fits, omega arith, omega arith))
+    (λ c κs. let s = safe (c .before .before .before) in (s .before, omega (arith, c .scan .ensures .fits)))
     returns-4)

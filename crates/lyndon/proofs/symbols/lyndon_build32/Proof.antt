@@ -1,0 +1,21 @@
+-- `lyndon::symbols::lyndon_build32` meets its contract.
+use borrow.Author.Needs.{needs}
+use Rattle.lyndon.proofs.symbols.lyndon_build32.Statement.{statement}
+use Rattle.lyndon.proofs.symbols.lyndon_build32.Tie as tie
+
+returns : tie.Need-returns
+returns c = record { figures = _; exactly = c .before .before .before .before .before .before .before .before .before .before .before .build .ensures; replies = c .build-reply .ensures }
+
+pub lyndon-build32-spec : {M : Type 1} → statement M
+lyndon-build32-spec =
+    tie.close
+    (tie.spec
+    (λ c. search needs)
+    (λ c κs. tt)
+    (λ c κs. tt)
+    (λ c. c .before .before .before .before .before .before .before .before .before .before .previous .given)
+    (λ c. c .before .before .before .before .before .before .before .before .next .given)
+    (λ c. c .before .before .before .before .before .before .previous-match .given)
+    (λ c. c .before .before .before .before .next-match .given)
+    (λ c. c .before .before .tree .given)
+    returns)
