@@ -147,7 +147,7 @@ fn scan_symbols(
         alike += 1;
         m += 1;
     }
-    while r + m < n {
+    while m < n - r {
         let x = symbols[l + m];
         let y = symbols[r + m];
         if x != y {
@@ -345,7 +345,7 @@ fn build_rows(
         record_entry(previous, previous_match, r - 1, p, v);
         // none until a later row settles it
         record_entry(next, next_match, r - 1, n, 0);
-        if rows == r {
+        if rows <= r {
             break 'rows;
         }
         let mut l = r - 1;

@@ -84,12 +84,12 @@ returns-2 : tie.Need-returns-2 Inv-loop μ-loop
 returns-2 c =
     let t = c .before in
     let d = t .before in
-    scan-stops _ _ _ _ _ _ _ (head d .loop .inv) (d .before .before .before .loop-test .taken) _ _ (at-left d) (at-right d) (other (at d) (left d) (right d) (t .if3 .taken)) (c .differs2 .ensures) (omega arith) (omega arith)
+    scan-stops _ _ _ _ _ _ _ (head d .loop .inv) (omega (arith, d .before .before .before .loop-test .taken)) _ _ (at-left d) (at-right d) (other (at d) (left d) (right d) (t .if3 .taken)) (c .differs2 .ensures) (omega arith) (omega arith)
 
 loop-again : tie.Need-loop-again Inv-loop μ-loop
 loop-again c =
     let d = c .before .before in
-    scan-goes _ _ _ _ _ _ _ (head d .loop .inv) (d .before .before .before .loop-test .taken) _ _ (at-left d) (at-right d) (ap (orientedRank (start (at d) .args .reverse)) (c .before .if3 .left)) (omega arith) (omega arith)
+    scan-goes _ _ _ _ _ _ _ (head d .loop .inv) (omega (arith, d .before .before .before .loop-test .taken)) _ _ (at-left d) (at-right d) (ap (orientedRank (start (at d) .args .reverse)) (c .before .if3 .left)) (omega arith) (omega arith)
 
 returns-3 : tie.Need-returns-3 Inv-loop μ-loop
 returns-3 c = scan-ends _ _ _ _ _ _ _ (c .before .loop .inv) (omega (arith, c .loop-test .left)) (omega arith) (omega arith) (omega arith) (omega arith)
