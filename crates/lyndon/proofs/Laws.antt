@@ -8,18 +8,15 @@ use borrow.Author.Tests.{eq-eqb}
 use Rattle.suffix.specs.Search.{tabulate}
 use Rattle.suffix.specs.Rows.{previousAfter, nextAfter, tablesAfter}
 use Rattle.suffix.proofs.Search.{tabulate-entry, tabulate-same}
-use Rattle.suffix.proofs.Laws.{allRowsGiveAllEntries, unmaskedAreTheirRanks, sameLettersSameRanks}
+use Rattle.suffix.proofs.Laws.{allRowsGiveAllEntries}
 use Rattle.refusal.specs.Numbers.{lowest, lowestFrom}
 use Rattle.refusal.specs.Conditions.{readRefusal, treeRefusal}
-use Rattle.outcome.specs.Built.{Lent, lentAfter, refusalOf, answer, lentAtExit}
+use Rattle.outcome.specs.Built.{Lent, lentAfter, refusalOf, lentAtExit}
 use Rattle.outcome.proofs.Answers.{Accepted, accepted, left-built}
-use Rattle.checker.specs.Checked as checker
 use Rattle.shape.specs.Claims.{ReadsAs, forNone}
 use Rattle.brackets.specs.Answers as brackets
 use Rattle.shape.proofs.Laws.{finishedTree, haltedTree, haltedTreeIsRefused}
-use Rattle.repeats.specs.Answers as repeats
-use Rattle.replies.specs.Replies.{wordReply}
-use Rattle.lyndon.specs.Claims.{Fits, Reads, BuiltThenRead, HaltedThenRefused, HaltedThenRead, AnsweredAlike, MaskingChangesNoAnswer, WideningChangesNoAnswer}
+use Rattle.lyndon.specs.Claims.{Fits, Reads, BuiltThenRead, HaltedThenRefused, HaltedThenRead}
 
 -- what a build that is not refused was lent
 was-lent : (y : List ℕ) (R : ℕ) (before : Lent) → refusalOf y R before ≡ 0 → Accepted (length y) R before
@@ -61,23 +58,3 @@ haltedThenRead y R before after tables e z F =
 
     seen : (f : ℕ → ℕ) → R ≤ n → tabulate R (λ i. forNone n R (getD (tabulate n f) i 0)) ≡ tabulate R (λ i. forNone n R (f i))
     seen f h = tabulate-same (λ i. forNone n R (getD (tabulate n f) i 0)) (λ i. forNone n R (f i)) R (λ i k. ap (forNone n R) (tabulate-entry f n i (lt-of-lt-of-le k h)))
-
--- one and the same string
-alike : {y z : List ℕ} → y ≡ z → AnsweredAlike y z
-alike e =
-    record {
-      build = λ R before. ap (λ y. answer y R before) e;
-      build-leaves = λ R before. ap (λ y. lentAtExit y R before) e;
-      word = λ i. ap (λ y. wordReply y i) e;
-      runs = λ work lists. ap (λ y. repeats.answer y work lists) e;
-      runs-lists = λ work lists. ap (λ y. repeats.listsAfter y work lists) e;
-      runs-work = λ work lists. ap (λ y. repeats.workAfter y work lists) e;
-      check = λ claimed work. ap (λ y. checker.finding y claimed work) e;
-      check-leaves = λ claimed work. ap (λ y. checker.workAtExit y claimed work) e;
-    }
-
-pub maskingChangesNoAnswer : MaskingChangesNoAnswer
-maskingChangesNoAnswer letters others S = alike (sameLettersSameRanks letters others .0 S)
-
-pub wideningChangesNoAnswer : WideningChangesNoAnswer
-wideningChangesNoAnswer letters h = alike (unmaskedAreTheirRanks letters h)

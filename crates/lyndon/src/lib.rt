@@ -9,7 +9,7 @@ ghost use Rattle.repeats.specs.Refusals.{lists};
 ghost use Rattle.runs.specs.Reported.{workOf, Reported};
 ghost use Rattle.cabinet.specs.Answers.{Written};
 ghost use Rattle.replies.specs.Replies.{Replied, buildReply, reply, checkReply, wordReply, cabinetReply};
-ghost use Rattle.lyndon.specs.Version.{interfaceVersion};
+ghost use Rattle.replies.specs.Version.{interfaceVersion};
 use replies::BuildReply;
 use replies::CabinetReply;
 use replies::CheckReply;
@@ -22,14 +22,11 @@ use replies::reply_of;
 
 mod symbols;
 
-// LYNDON_VERSION of the header.
-const VERSION: u32 = 5;
-
 #[no_mangle]
 pub extern "C" fn lyndon_version() -> u32
     ensures { λ r. ⌜ r ≡ interfaceVersion ⌝ }
 {
-    VERSION
+    replies::version()
 }
 
 #[no_mangle]

@@ -1,1 +1,3 @@
+pub mod Version
 pub mod Replies
+pub mod Claims

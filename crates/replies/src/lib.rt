@@ -1,12 +1,22 @@
-// The replies of the exported functions, and those that carry an answer's figures.
+// The version of the exported functions, the structures that they return, and the replies that carry an answer's figures.
 ghost use mathlib.Core.Path.{_≡_};
 ghost use Rattle.outcome.specs.Built.{figuresOf as builtFigures};
 ghost use Rattle.checker.specs.Checked.{findingOf};
 ghost use Rattle.refusal.specs.Answers.{figuresOf};
+ghost use Rattle.replies.specs.Version.{interfaceVersion};
 ghost use Rattle.replies.specs.Replies.{buildReply, reply, checkReply, partReply};
 use checker::Checked;
 use outcome::Built;
 use refusal::Answer;
+
+// LYNDON_VERSION of the header.
+const VERSION: u32 = 5;
+
+pub fn version() -> u32
+    ensures { λ r. ⌜ r ≡ interfaceVersion ⌝ }
+{
+    VERSION
+}
 
 #[repr(C)]
 pub struct BuildReply {
