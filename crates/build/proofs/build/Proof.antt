@@ -12,6 +12,7 @@ use Rattle.suffix.proofs.Bytes.{bytes-length}
 use Rattle.refusal.specs.Numbers.{verdictNumber}
 use Rattle.refusal.specs.Conditions.{buildRefusal}
 use Rattle.reuse.specs.Steps.{afterRows}
+use Rattle.entries.proofs.Clearing.{cleared-alike}
 use Rattle.build.specs.States.{progressOf, buildState}
 use Rattle.outcome.specs.Built.{Lent, lent, refusalOf}
 use Rattle.outcome.proofs.Answers.{Accepted}
@@ -113,7 +114,8 @@ tree-is t =
 exact : (t : tie.After-clear-tables) → let s = start (told (built t)) in buildState (built t .build-rows .result) (after t .tables) ≡ afterRows (y s) (s .args .rows)
 exact t =
     let e = t .clear-tables .ensures in
-    ap (buildState (built t .build-rows .result)) (tables-are (e .0) (e .1) (e .2) (e .3)) ∙ built t .build-rows .ensures .0
+    ap (buildState (built t .build-rows .result)) (tables-are (e .0 ∙ cleared-alike _ (omega arith) (omega arith)) (e .1 ∙ cleared-alike _ (omega arith) (omega arith)) (e .2 ∙ cleared-alike _ (omega arith) (omega arith))
+    (e .3 ∙ cleared-alike _ (omega arith) (omega arith))) ∙ built t .build-rows .ensures .0
 
 returns-2 : tie.Need-returns-2
 returns-2 c =
