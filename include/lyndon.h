@@ -1,7 +1,8 @@
-/* The Lyndon structure of a string: nearest smaller suffixes, their matches, and the bracket tree; all its runs; and the check of a next
- * table that others made.
+/* The Lyndon structure of a string: nearest smaller suffixes, their matches, and the bracket tree; all its runs; the check of a next
+ * table that others made; and a string for a tree.
  *
- * A string has n letters, n from 0 to 1,000,000, of one byte each or, for the functions whose names end in 32, of 32 bits each:
+ * A string has n letters, n from 0 to 1,000,000, of one byte each or, for the functions whose names end in 32 and in the string that
+ * lyndon_tree_string writes, of 32 bits each:
  *   - letters of one byte compare by their unsigned value, but small letters, bytes 97 to 122, as the capitals, 65 to 90: a masked
  *     letter counts as the same letter. So A and a are equal, and the answers for a string are those for the same string in capitals;
  *   - letters of 32 bits, such as allele lengths, are called symbols. They compare as unsigned numbers, with no masking: every value
@@ -71,7 +72,7 @@ extern "C" {
 /* The version of this header: it rises when a function is added, and with every change of a structure or a function, of what it
  * answers too. A program whose LYNDON_VERSION is not what lyndon_version() returns was compiled against another header than the
  * archive's, and is to be compiled again. */
-#define LYNDON_VERSION 5
+#define LYNDON_VERSION 6
 
 /* The version of the archive. */
 uint32_t lyndon_version(void);
@@ -90,7 +91,7 @@ uint32_t lyndon_version(void);
 typedef enum LyndonRefusal {
     LYNDON_NOT_REFUSED = 0,
     LYNDON_TOO_LONG = 1,              /* n above 1,000,000; writing a cabinet: a letter count above 1,000,000 */
-    LYNDON_WRONG_TABLE_LENGTH = 2,    /* a lent table not exactly n entries long */
+    LYNDON_WRONG_TABLE_LENGTH = 2,    /* a lent table, or the buffer for the string of a tree, not exactly n entries long */
     LYNDON_WRONG_TREE_LENGTH = 3,     /* the tree not exactly ceil(n / 4) bytes; writing a cabinet: the trees or the buffer not as
                                          many bytes as the counts ask for */
     LYNDON_TOO_MANY_ROWS = 4,         /* more rows asked than n */
@@ -194,6 +195,17 @@ LyndonReply lyndon_next(size_t n, const uint8_t *tree, size_t tree_length, size_
 /* The bit place of the opening of `position` in the tree of n positions.
  * Refusals: 1, 3, 5, 6, 7, 8. Memory: nothing is written. */
 LyndonReply lyndon_place(size_t n, const uint8_t *tree, size_t tree_length, size_t position);
+
+/* Writes a string for the tree of n positions, of symbols of 32 bits: a specimen to test a reader with, and as a rule another string
+ * than the one that the tree was built of. The symbol of a position is its number, where the positions are numbered thus: roots from
+ * last to first, each followed by all that hangs below it before the next root, children likewise from last to first, counting from
+ * 0. So the symbols are 0 to n - 1, and all of them differ. Building the string by lyndon_build32 gives the tree back, and the tables
+ * that lyndon_read gives; every match is 0. For the tree of banana the string is 5, 3, 4, 1, 2, 0. Returns the refusal, or 0.
+ *
+ * Refusals: 1, 2 (for the symbols), 3, 6, 7, 8.
+ * Memory: a refusal leaves the symbols as they were. Otherwise every one of them is written. The tree is only read. */
+uint32_t lyndon_tree_string(size_t n, const uint8_t *tree, size_t tree_length,
+                            uint32_t *symbols, size_t symbols_length);
 
 /* The longest Lyndon word that starts at `position`: it starts there, and its length is next[position] - position. The part is that
  * of the caller's own letters, small ones and capitals as they stand. n is letters_length.

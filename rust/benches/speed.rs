@@ -1,6 +1,7 @@
 //! Times the library beside plain Rust: builds, checks and runs of 1,000,000 letters, how their cost grows,
-//! trees, and cabinets of them; and builds, checks and runs of 1,000,000 symbols of 32 bits. `cargo bench --
-//! runs` measures the runs of letters alone, and so for `builds`, `checks`, `trees`, `cabinets` and `symbols`.
+//! trees, strings for them, and cabinets of them; and builds, checks and runs of 1,000,000 symbols of 32 bits.
+//! `cargo bench -- runs` measures the runs of letters alone, and so for `builds`, `checks`, `trees`, `strings`,
+//! `cabinets` and `symbols`.
 //!
 //! Both sides take turns in one run, on the same input and the same buffers, which are not cleared
 //! between. Each answer is compared with the first one, outside the measured time. The time is that which
@@ -12,7 +13,7 @@ use std::hint::black_box;
 use lyndon::{raw, Built, Checked, Refusal};
 use reference::fast::{self, Scanned};
 use reference::samples::{self, Random};
-use reference::{cabinet, fast_brackets, fast_runs, Figures};
+use reference::{cabinet, fast_brackets, fast_runs, fast_tree_string, Figures};
 
 const LETTERS: usize = 1_000_000;
 const BUILD_ROUNDS: usize = 31;
@@ -483,6 +484,48 @@ fn compare_small_trees() {
     }
 }
 
+/// Plain Rust that writes the string for a tree.
+type Write = fn(usize, &[u8], &mut [u32]) -> Result<(), u32>;
+
+/// Prints rows of the strings for these trees of `n` positions, each written once a round: beside plain Rust
+/// without a branch that depends on a bracket, and with one at each bracket. Either is faster for some trees.
+fn print_strings(name: &str, n: usize, trees: &[Vec<u8>]) {
+    let ways: [(&str, Write); 2] = [
+        ("without branches", fast_tree_string::write),
+        ("with branches", fast_tree_string::write_with_branches),
+    ];
+    let trees = || black_box(trees).iter();
+    for (way, plain) in ways {
+        let comparison = Comparison::run(
+            TREE_ROUNDS,
+            &mut vec![7; n],
+            |symbols| trees().all(|tree| lyndon::tree_string_into(n, tree, symbols).is_ok()),
+            |symbols| trees().all(|tree| plain(n, tree, symbols).is_ok()),
+        );
+        println!("| {name} | {way} | {} |", comparison.row());
+    }
+}
+
+fn compare_strings(trees: &[(&str, Vec<u8>)]) {
+    println!("\nStrings for trees of {LETTERS} positions, {TREE_ROUNDS} rounds.");
+    print_head(&format!("tree | plain Rust | {}", Comparison::COLUMNS));
+    for (name, tree) in trees {
+        print_strings(name, LETTERS, std::slice::from_ref(tree));
+    }
+}
+
+/// Many small trees, since a processor learns the brackets of a few that it meets again and again.
+fn compare_strings_of_small_trees() {
+    println!("\nStrings for {SMALL_CALLS} random trees a round, {TREE_ROUNDS} rounds.");
+    print_head(&format!("positions | plain Rust | {}", Comparison::COLUMNS));
+    let mut random = Random::new(49);
+    for n in [6, 40, 1_000] {
+        let tree = |_| samples::random_tree(&mut random, n, 5);
+        let trees: Vec<_> = (0..SMALL_CALLS).map(tree).collect();
+        print_strings(&n.to_string(), n, &trees);
+    }
+}
+
 fn compare_cabinets(trees: &[(&str, Vec<u8>)]) {
     let entries = lyndon::MAX_ENTRIES;
     println!("\nCabinets of {entries} trees of {LETTERS} positions, {CABINET_ROUNDS} rounds.");
@@ -564,6 +607,10 @@ fn main() {
         compare_readings(&trees);
         compare_questions(&trees);
         compare_small_trees();
+    }
+    if asked("strings") {
+        compare_strings(&trees());
+        compare_strings_of_small_trees();
     }
     if asked("cabinets") {
         compare_cabinets(&trees());

@@ -2,7 +2,7 @@
 //! it, the letters they share, and the bracket tree of the previous smaller suffixes. Many trees fit in
 //! one cabinet file, written by [`cabinet_write`] and read by [`cabinet_read`]. [`runs()`] gives all tandem
 //! repeats, and [`check`] says whether a next table that others made is right. Letters are bytes, or numbers of
-//! 32 bits, such as allele lengths.
+//! 32 bits, such as allele lengths. [`tree_string`] gives a string for a tree that is held without its letters.
 //!
 //! This is a safe wrapper of `liblyndon.a`. Nothing has to be tested before a call: every input is
 //! answered, by a value or by a [`Refusal`], and a refusal writes nothing to the lent memory, but for
@@ -52,6 +52,11 @@
 //! // Of symbols of 32 bits no value counts as another.
 //! assert_eq!(Structure::of_symbols(&[98, 97, 110, 97, 110, 97])?, banana);
 //! assert_ne!(Structure::of_symbols(&[98, 97, 78, 65, 110, 97])?, banana);
+//!
+//! // A string for the tree, whose letters need not be known.
+//! let string = lyndon::tree_string(6, &banana.tree)?;
+//! assert_eq!(string, [5, 3, 4, 1, 2, 0]);
+//! assert_eq!(Structure::of_symbols(&string)?.tree, banana.tree);
 //! # Ok::<(), lyndon::Refusal>(())
 //! ```
 
@@ -88,8 +93,9 @@ pub enum Refusal {
     /// 1: n above 1,000,000. Writing a cabinet: a letter count above 1,000,000.
     TooLong = 1,
     /// 2: a lent table not exactly n entries of 32 bits long (four tables for the build, previous and
-    /// next for reading a tree, six work tables for the runs, the claimed table and four work tables for
-    /// a check). [`runs_into`], [`runs32_into`]: work memory of fewer than [`runs_work_length`]`(n)` entries.
+    /// next for reading a tree, the symbols for the string of a tree, six work tables for the runs, the claimed
+    /// table and four work tables for a check). [`runs_into`], [`runs32_into`]: work memory of fewer than
+    /// [`runs_work_length`]`(n)` entries.
     TableLength = 2,
     /// 3: the tree not exactly ceil(n/4) bytes. Writing a cabinet: the trees or the buffer not exactly
     /// as many bytes as the letter counts ask for.
@@ -157,7 +163,7 @@ impl fmt::Display for Refusal {
         let text = match self {
             Refusal::TooLong => "more than 1,000,000 letters",
             Refusal::TableLength => {
-                "a lent table is not exactly n entries long, \
+                "a lent table, or the buffer for the string of a tree, is not exactly n entries long, \
                 or the work memory for runs has fewer than 6 n entries"
             }
             Refusal::TreeLength => {
@@ -220,13 +226,13 @@ fn built(reply: raw::BuildReply) -> Result<Built, Refusal> {
     })
 }
 
-/// The number of letters that memory is taken for. Too many letters are refused whatever is lent, so
+/// The number of letters or positions that memory is taken for. Too many are refused whatever is lent, so
 /// none is taken for them.
-fn lent_entries<L>(letters: &[L]) -> usize {
-    if letters.len() > MAX_LETTERS {
+fn lent_entries(n: usize) -> usize {
+    if n > MAX_LETTERS {
         0
     } else {
-        letters.len()
+        n
     }
 }
 
@@ -349,6 +355,69 @@ pub fn place(n: usize, tree: &[u8], position: usize) -> Result<usize, Refusal> {
     Refusal::check(reply.refusal).map(|()| reply.value)
 }
 
+/// A string for the tree of `n` positions, of symbols of 32 bits: a specimen to test a reader with, and as a
+/// rule another string than the one that the tree was built of.
+///
+/// The symbol of a position is its number, where the positions are numbered thus: roots from last to first, each
+/// followed by all that hangs below it before the next root, children likewise from last to first, counting
+/// from 0. So the symbols are 0 to n - 1, and all of them differ. [`Structure::of_symbols`] of the string has
+/// `tree`, and the tables that [`read`] gives; every match in it is 0.
+///
+/// ```
+/// use lyndon::Structure;
+///
+/// // Two roots, and one root with the other position under it.
+/// assert_eq!(lyndon::tree_string(2, &[0x05])?, [1, 0]);
+/// assert_eq!(lyndon::tree_string(2, &[0x03])?, [0, 1]);
+///
+/// // Building the string gives back the tree, and the tables that go with it.
+/// let gattaca = Structure::of(b"gattaca")?;
+/// let string = lyndon::tree_string(7, &gattaca.tree)?;
+/// assert_eq!(string, [6, 3, 5, 4, 1, 2, 0]);
+/// let built = Structure::of_symbols(&string)?;
+/// assert_eq!(built.tree, gattaca.tree);
+/// assert_eq!((built.previous, built.next), (gattaca.previous, gattaca.next));
+/// # Ok::<(), lyndon::Refusal>(())
+/// ```
+///
+/// Whoever asks often lends the memory by [`tree_string_into`].
+///
+/// # Errors
+///
+/// Refusals 1, 3, 6, 7, 8.
+pub fn tree_string(n: usize, tree: &[u8]) -> Result<Vec<u32>, Refusal> {
+    let mut symbols = vec![0; lent_entries(n)];
+    tree_string_into(n, tree, &mut symbols)?;
+    Ok(symbols)
+}
+
+/// Writes the string of the tree of `n` positions, as [`tree_string`] gives it, into lent memory. `symbols` has
+/// `n` entries. All of them are written, whatever they held before.
+///
+/// ```
+/// let mut symbols = [7; 6];
+/// lyndon::tree_string_into(6, &[0xcd, 0x04], &mut symbols)?;
+/// assert_eq!(symbols, [5, 3, 4, 1, 2, 0]);
+/// # Ok::<(), lyndon::Refusal>(())
+/// ```
+///
+/// # Errors
+///
+/// Refusals 1, 2, 3, 6, 7, 8. Nothing is written then.
+pub fn tree_string_into(n: usize, tree: &[u8], symbols: &mut [u32]) -> Result<(), Refusal> {
+    // SAFETY: each pointer comes from a slice with its length, and exclusive slices do not overlap.
+    let number = unsafe {
+        raw::lyndon_tree_string(
+            n,
+            tree.as_ptr(),
+            tree.len(),
+            symbols.as_mut_ptr(),
+            symbols.len(),
+        )
+    };
+    Refusal::check(number)
+}
+
 /// The longest Lyndon word that starts at `position`, as a part of `letters` itself, its small letters and
 /// capitals as they stand.
 ///
@@ -437,7 +506,7 @@ type RunsInto<L> =
 
 /// The runs that `runs_into` reports.
 fn runs_by<L>(runs_into: RunsInto<L>, letters: &[L]) -> Result<Vec<Run>, Refusal> {
-    let n = lent_entries(letters);
+    let n = lent_entries(letters.len());
     let [mut starts, mut ends, mut periods] = std::array::from_fn(|_| vec![0; n.saturating_sub(1)]);
     let mut work = vec![0; runs_work_length(n)];
     let number = runs_into(letters, &mut starts, &mut ends, &mut periods, &mut work)?;
@@ -592,7 +661,7 @@ fn check_by<L>(
     letters: &[L],
     claimed: &[u32],
 ) -> Result<Checked, Refusal> {
-    let n = lent_entries(letters);
+    let n = lent_entries(letters.len());
     let [mut previous, mut next, mut previous_match, mut next_match] =
         std::array::from_fn(|_| vec![0; n]);
     check_into(
@@ -869,7 +938,7 @@ impl Structure {
 
     /// The structure that `build` leaves after `rows` rows.
     fn by<L>(build: Build<L>, letters: &[L], rows: usize) -> Result<Structure, Refusal> {
-        let n = lent_entries(letters);
+        let n = lent_entries(letters.len());
         let [mut previous, mut next, mut previous_match, mut next_match] =
             std::array::from_fn(|_| vec![0; n]);
         let mut tree = vec![0; tree_length(n)];

@@ -2,7 +2,7 @@
 //! as a pointer and a length. `include/lyndon.h` declares the same.
 
 /// The version of these declarations, `LYNDON_VERSION` in the header. [`lyndon_version`] returns that of the archive.
-pub const VERSION: u32 = 5;
+pub const VERSION: u32 = 6;
 
 /// The answer of [`lyndon_build`] and [`lyndon_build32`].
 #[repr(C)]
@@ -270,6 +270,19 @@ extern "C" {
     ///
     /// As for [`lyndon_previous`].
     pub fn lyndon_place(n: usize, tree: *const u8, tree_length: usize, position: usize) -> Reply;
+
+    /// Writes a string for a tree, of symbols of 32 bits. Returns the refusal's number, 0 where written.
+    ///
+    /// # Safety
+    ///
+    /// As for [`lyndon_build`].
+    pub fn lyndon_tree_string(
+        n: usize,
+        tree: *const u8,
+        tree_length: usize,
+        symbols: *mut u32,
+        symbols_length: usize,
+    ) -> u32;
 
     /// The longest Lyndon word at a position, as a part of the caller's own letters.
     ///

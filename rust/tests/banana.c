@@ -234,6 +234,27 @@ static int check_of_symbols_agrees(void)
         && is_found_of_symbols(next, N - 1, LYNDON_WRONG_TABLE_LENGTH, 0, 0);
 }
 
+/* Whether the string for the tree of banana is as it is numbered, and building it gives the tree back; and whether a buffer that is too
+ * short and a tree with a spare bit set are refused, and leave the buffer. */
+static int tree_string_agrees(void)
+{
+    static const uint32_t numbers[N] = {5, 3, 4, 1, 2, 0};
+    static const uint8_t spare_bit[TREE_LENGTH] = {0xcd, 0x14};
+    static const uint32_t sevens[N] = {7, 7, 7, 7, 7, 7};
+    static uint32_t string[N] = {7, 7, 7, 7, 7, 7}, tables[4][N];
+    static uint8_t brackets[TREE_LENGTH];
+    uint32_t too_short = lyndon_tree_string(N, tree, TREE_LENGTH, string, N - 1);
+    uint32_t spare = lyndon_tree_string(N, spare_bit, TREE_LENGTH, string, N);
+    int left_alone = memcmp(string, sevens, sizeof string) == 0;
+    uint32_t refusal = lyndon_tree_string(N, tree, TREE_LENGTH, string, N);
+    LyndonBuildReply built = lyndon_build32(string, N, N, tables[0], N, tables[1], N, tables[2], N, tables[3], N,
+                                            brackets, TREE_LENGTH);
+    return too_short == LYNDON_WRONG_TABLE_LENGTH && spare == LYNDON_SPARE_BIT_SET && left_alone
+        && refusal == 0 && memcmp(string, numbers, sizeof string) == 0
+        && built.refusal == 0 && built.finished == 1 && memcmp(brackets, tree, TREE_LENGTH) == 0
+        && memcmp(tables[0], previous, sizeof previous) == 0 && memcmp(tables[1], next, sizeof next) == 0;
+}
+
 int main(void)
 {
     size_t i;
@@ -275,6 +296,9 @@ int main(void)
     }
     if (!check_of_symbols_agrees()) {
         return failed("lyndon_check32");
+    }
+    if (!tree_string_agrees()) {
+        return failed("lyndon_tree_string");
     }
 
     printf("length %d comparisons %lu tree ", N, (unsigned long)(built.equal + built.unequal));

@@ -7,13 +7,13 @@ mod common;
 use std::collections::BTreeSet;
 
 use common::{
-    assert_build, assert_read, assert_read_refused, assert_runs, assert_runs_refused, assert_word,
-    Lent, Letter, FILLS, LIBRARY,
+    assert_build, assert_read, assert_read_refused, assert_runs, assert_runs_refused,
+    assert_tree_string, assert_tree_string_refused, assert_word, Lent, Letter, FILLS, LIBRARY,
 };
 use lyndon::{raw, tree_length, Built, Refusal};
 use reference::runs::{by_definition, Run};
 use reference::samples::{random_string, random_tree, widened, Random};
-use reference::{fast, fast_brackets, refusals};
+use reference::{fast, fast_brackets, fast_tree_string, refusals};
 
 /// Numbers of letters around those where a tree takes one more byte.
 const SMALL: [usize; 9] = [0, 1, 2, 3, 4, 5, 7, 8, 9];
@@ -188,6 +188,42 @@ fn readings() {
         for tree in trees(n) {
             check_reading(&mut pairs, n, &tree, [n, n]);
             check_reading(&mut pairs, n, &tree, [n, n - 1]);
+        }
+    }
+    pairs.assert_all_of(&[1, 2, 3, 6, 7, 8]);
+}
+
+fn check_tree_string(pairs: &mut Pairs, n: usize, tree: &[u8], symbols: usize) {
+    let applying = refusals::of_tree_string(n, tree, symbols);
+    pairs.add(&applying);
+    match refusals::first(&applying) {
+        Err(number) => assert_tree_string_refused(n, tree, symbols, number),
+        Ok(()) => {
+            let mut expected = vec![0; n];
+            fast_tree_string::write(n, tree, &mut expected).expect("a balanced tree");
+            assert_tree_string(n, tree, &expected);
+        }
+    }
+}
+
+#[test]
+fn strings_of_trees() {
+    let mut pairs = Pairs::default();
+    for n in SMALL {
+        for tree in trees(n) {
+            for symbols in around(n) {
+                check_tree_string(&mut pairs, n, &tree, symbols);
+            }
+            for wrong in [0, n.div_ceil(4), 2 * n, 4 * n, n + 1000] {
+                check_tree_string(&mut pairs, n, &tree, wrong);
+            }
+        }
+    }
+    for n in [LIMIT, LIMIT + 1] {
+        for tree in trees(n) {
+            for symbols in around(n) {
+                check_tree_string(&mut pairs, n, &tree, symbols);
+            }
         }
     }
     pairs.assert_all_of(&[1, 2, 3, 6, 7, 8]);
@@ -383,6 +419,9 @@ fn a_million_letters_are_taken_and_one_more_is_refused() {
         Ok(())
     );
     assert_eq!(lyndon::place(LIMIT, &tree, 0), Ok(0));
+    let mut symbols = vec![0; LIMIT];
+    fast_tree_string::write(LIMIT, &tree, &mut symbols).unwrap();
+    assert!(lyndon::tree_string(LIMIT, &tree) == Ok(symbols));
 
     let (n, one_more) = (LIMIT + 1, [tree.as_slice(), &[1]].concat());
     assert_eq!(
@@ -392,6 +431,7 @@ fn a_million_letters_are_taken_and_one_more_is_refused() {
     assert_eq!(lyndon::longest_word(&letters, 0), Err(Refusal::TooLong));
     assert_eq!(lyndon::runs(&letters), Err(Refusal::TooLong));
     assert_read_refused(n, &one_more, [n, n], 1);
+    assert_tree_string_refused(n, &one_more, n, 1);
     assert_eq!(
         LIBRARY.map(|question| question(n, &one_more, 0)),
         [Err(1); 3]
@@ -412,6 +452,7 @@ fn numbers_of_positions_beyond_any_tree() {
         for tree in [&tree_of_5[..], &tree_of_5[..1], &[]] {
             for length in [0, 4, 5] {
                 assert_read_refused(n, tree, [length, length], 1);
+                assert_tree_string_refused(n, tree, length, 1);
             }
             for position in [0, 4, 5, n - 1, n, usize::MAX] {
                 assert_eq!(

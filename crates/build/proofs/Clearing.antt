@@ -39,3 +39,8 @@ none-left n t a b c d = rw (past (t .previous) n a, past (t .next) n b, past (t 
   where
     past : (l : List ℕ) (v : ℕ) → length l ≡ n → clearedFrom n v l ≡ l
     past l v e = cleared-none n v l (omega arith)
+
+-- each table is cleared from k on, which is r: entries to v, which is n, and matches to 0
+pub tables-cleared : {k v r n : ℕ} (t : Tables) {p x a b : List ℕ} → p ≡ clearedFrom k v (t .previous) → x ≡ clearedFrom k v (t .next) → a ≡ clearedFrom k 0 (t .previousMatch)
+    → b ≡ clearedFrom k 0 (t .nextMatch) → k ≡ r → v ≡ n → tablesOf p x a b ≡ clearedTables n r t
+tables-cleared t e f g h i j = rw (e, f, g, h, i, j)

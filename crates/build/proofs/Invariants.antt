@@ -184,11 +184,14 @@ module _ {y : List ℕ} {rows r : ℕ} {s : State} {t : Tables} {tree : List ℕ
   small : r < length y
   small = omega (arith, W .more, W .fits)
 
+  pub bit-low : bit < length y + length y
+  bit-low = omega (arith, W .at, small)
+
   abbrev seen : Tables
   seen = clearedTables (length y) r t
 
-  pub safe : known ≡ false → Safe (length y) (progressOf s) l r m
-  safe e = go (rw e at (W .going .holds))
+  pub safe : {n : ℕ} → length y ≡ n → known ≡ false → Safe n (progressOf s) l r m
+  safe z e = rw z at (go (rw e at (W .going .holds)))
     where
       go : Holds y r (asked (progressOf s) seen l m) → Safe (length y) (progressOf s) l r m
       go (at-asked A) =
@@ -204,10 +207,14 @@ module _ {y : List ℕ} {rows r : ℕ} {s : State} {t : Tables} {tree : List ℕ
             unequal = omega (arith, A .cost .unequal, pairs-most (length y) seen, A .sizes .previous, A .sizes .next);
           }
 
-  module _ (u : declared.SettledPair)
-      (E : (pairOf u ≡ settledFrom known y (progressOf s) (tablesOf [] (t .next) (t .previousMatch) (t .nextMatch)) l r m) × (u .state .rows ≡ s .rows)) where
+  -- (l, r) is settled as u
+  pub record Settled (u : declared.SettledPair) : Type 0 where
+    pub pair : pairOf u ≡ settledFrom known y (progressOf s) (tablesOf [] (t .next) (t .previousMatch) (t .nextMatch)) l r m
+    pub rows-stay : u .state .rows ≡ s .rows
+
+  module _ {u : declared.SettledPair} (E : Settled u) where
     G : Going y r (settled (pairOf u) seen l)
-    G = settles y r small known (progressOf s) seen l m (W .going) (E .0 ∙ reads-before known y (progressOf s) (length y) t l r m (W .before) (λ e. safe e .shifted))
+    G = settles y r small known (progressOf s) seen l m (W .going) (E .pair ∙ reads-before known y (progressOf s) (length y) t l r m (W .before) (λ e. safe refl e .shifted))
 
     M : AtSettled y r (pairOf u) seen l
     M = go (G .holds)
@@ -216,7 +223,7 @@ module _ {y : List ℕ} {rows r : ℕ} {s : State} {t : Tables} {tree : List ℕ
         go (at-settled M) = M
 
     pub advances : (k : ℕ) → r ≡ k + 1 → rows - u .state .rows < rows - k
-    advances k e = omega (arith, W .more, W .rows-are, E .1)
+    advances k e = omega (arith, W .more, W .rows-are, E .rows-stay)
 
     pub match-fits : r + u .matched ≤ length y
     match-fits = agree-fits y (W .before) (omega (arith, small)) (M .told .match .same)
@@ -233,7 +240,7 @@ module _ {y : List ℕ} {rows r : ℕ} {s : State} {t : Tables} {tree : List ℕ
         let p : previous y r ≡ v =
         sym (previousAfter-in y (suc r) r (omega arith)) ∙ sym (D .previous r small)
         ∙ getD-set-same (clearedFrom r (length y) (t′ .previous)) r v 0 (omega (arith, small, cleared-length r (length y) (t′ .previous), S .previous)) in
-        at-rows y rows r (raised (u .state)) t′ v w tree bit′ (W .more) (W .fits) (ap (λ k. k + 1) (E .1 ∙ W .rows-are)) i e f S (W .written)
+        at-rows y rows r (raised (u .state)) t′ v w tree bit′ (W .more) (W .fits) (ap (λ k. k + 1) (E .rows-stay ∙ W .rows-are)) i e f S (W .written)
         (omega (arith, level-is y r small, ap (level y) p))
 
     pub ends-left : u .«left_smaller» ≡ true → AtRows y rows (raised (u .state)) t l (u .matched) tree bit
@@ -291,5 +298,5 @@ module _ {y : List ℕ} {rows r : ℕ} {s : State} {t : Tables} {tree : List ℕ
         pub goes : u .matched ≤ v → {i j : ℕ} → i ≡ getD (t′ .previous) p 0 → j ≡ getD (t′ .previousMatch) p 0
             → AtWalk y rows r (u .state) t′ tree (bit + 1) i j p (u .matched) (ltb (u .matched) v)
         goes w {i} {j} reads reads-match =
-            at-walk y rows r (u .state) t′ tree (bit + 1) i j p (u .matched) _ (W .more) (W .fits) (E .1 ∙ W .rows-are)
+            at-walk y rows r (u .state) t′ tree (bit + 1) i j p (u .matched) _ (W .more) (W .fits) (E .rows-stay ∙ W .rows-are)
             (rw (t′-seen, p-seen, v-seen) at (goes-on y r small G b (λ e. some (sym p-seen ∙ e)) (omega (arith, v-seen)))) reads reads-match (W .written) up

@@ -5,6 +5,7 @@ ghost use Rattle.outcome.specs.Built.{tablesOf, lent, BuiltExactly};
 ghost use Rattle.checker.specs.Checked.{CheckedExactly};
 ghost use Rattle.brackets.specs.Answers.{ReadBack};
 ghost use Rattle.questions.specs.Answers.{previousAnswer, nextAnswer, placeAnswer};
+ghost use Rattle.tree_string.specs.TreeString.{StringWritten};
 ghost use Rattle.repeats.specs.Refusals.{lists};
 ghost use Rattle.runs.specs.Reported.{workOf, Reported};
 ghost use Rattle.cabinet.specs.Answers.{Written};
@@ -89,6 +90,13 @@ pub extern "C" fn lyndon_place(n: usize, tree: &[u8], position: usize) -> Reply
     ensures { λ r. ⌜ r ≡ reply (placeAnswer n (now (tree .entry)) position) ⌝ }
 {
     reply_of(questions::place_of(n, tree, position))
+}
+
+#[no_mangle]
+pub extern "C" fn lyndon_tree_string(n: usize, tree: &[u8], symbols: &mut [u32]) -> u32
+    ensures { λ r. ⌜ StringWritten n (now (tree .entry)) (now (symbols .entry)) (now (symbols .exit)) r ⌝ }
+{
+    refusal::verdict_number(tree_string::write(n, tree, symbols))
 }
 
 #[no_mangle]

@@ -10,7 +10,7 @@ use outcome::Built;
 use refusal::Answer;
 
 // LYNDON_VERSION of the header.
-const VERSION: u32 = 5;
+const VERSION: u32 = 6;
 
 pub fn version() -> u32
     ensures { λ r. ⌜ r ≡ interfaceVersion ⌝ }

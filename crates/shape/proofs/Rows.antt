@@ -18,7 +18,7 @@ use Rattle.shape.specs.Shape.{size, parents, ends}
 use Rattle.shape.specs.Claims.{forNone}
 
 -- a table in two parts
-table-parts : (g : ℕ → ℕ) (i m k : ℕ) → tabulateFrom i (m + k) g ≡ tabulateFrom i m g ++ tabulateFrom (i + m) k g
+pub table-parts : (g : ℕ → ℕ) (i m k : ℕ) → tabulateFrom i (m + k) g ≡ tabulateFrom i m g ++ tabulateFrom (i + m) k g
 unfolding tabulateFrom
 table-parts g i zero k = let z : 0 + k ≡ k = omega arith in let w : i + 0 ≡ i = omega arith in rw (z, w)
 table-parts g i (suc m) k =

@@ -24,10 +24,10 @@ ends-length (tree u r) i =
     ap suc (length-append (ends u (suc i)) (ends r (suc i + size u)) ∙ omega (arith, ends-length u (suc i), ends-length r (suc i + size u)))
 
 -- an entry of two lists end to end
-entry-left : (s t : List ℕ) (m k : ℕ) → length s ≡ m → k < m → getD (s ++ t) k 0 ≡ getD s k 0
+pub entry-left : (s t : List ℕ) (m k : ℕ) → length s ≡ m → k < m → getD (s ++ t) k 0 ≡ getD s k 0
 entry-left s t m k e h = List·getD-append s t 0 k (omega arith)
 
-entry-right : (s t : List ℕ) (m k : ℕ) → length s ≡ m → getD (s ++ t) (m + k) 0 ≡ getD t k 0
+pub entry-right : (s t : List ℕ) (m k : ℕ) → length s ≡ m → getD (s ++ t) (m + k) 0 ≡ getD t k 0
 entry-right s t m k e = rw (← e) (getD-append-add s t k 0)
 
 module _ (g : ℕ → Bool) where

@@ -3,14 +3,14 @@ use mathlib.Core.Path.{_≡_, sym, ap, _∙_}
 use mathlib.Core.Logic.{_≢_}
 use mathlib.Core.Bool.{Bool, true, false, cond}
 use mathlib.Core.List.{List}
-use Prim.Native.Nat.{ℕ, zero, suc, _+_, _*_, _/_, _%_, _^_, _<_}
+use Prim.Native.Nat.{ℕ, zero, suc, _+_, _*_, _/_, _%_, _^_, _≤_, _<_}
 use native.Mathlib.Nat.{two-pow-succ}
 use native.Mathlib.Omega.{arith}
-use lib.ListN.{length, getD, set, replicate, getD-replicate, length-replicate, length-set}
+use lib.ListN.{length, getD, set, replicate, getD-replicate, length-replicate, length-set, List·getD-eq-default}
 use lib.Seq.{getD-set-same, getD-set-other}
-use Rattle.suffix.specs.Search.{sumBelow}
+use Rattle.suffix.specs.Search.{sumBelow, tabulate}
 use Rattle.suffix.specs.Tree.{hanging, forestAfter, parentheses, byteOf, treeLength, treeAfter, treeBytes}
-use Rattle.suffix.proofs.Cases.{Same, same, other, same?}
+use Rattle.suffix.proofs.Cases.{Tri, lt, eq, gt, tri, Same, same, other, same?}
 use Rattle.suffix.proofs.Search.{sum-same, sum-raise, tabulate-length, tabulate-entry, tabulate-is}
 use Rattle.suffix.proofs.Levels.{level, level-is}
 use Rattle.suffix.proofs.Places.{SetsBit, row-sets}
@@ -31,6 +31,21 @@ byte-fits g j = weights-fit (λ i. g (8 * j + i)) 8
 -- the bits of the tree after R rows
 abbrev bits : List ℕ → ℕ → ℕ → Bool
 bits y R k = getD (treeAfter y R) k false
+
+pub bytes-fit : (y : List ℕ) (R j : ℕ) → getD (treeBytes y R) j 0 < 256
+unfolding treeBytes
+bytes-fit y R j = go (tri j m)
+  where
+    m : ℕ
+    m = treeLength (length y)
+
+    behind : m ≤ j → getD (tabulate m (byteOf (bits y R))) j 0 < 256
+    behind h = let z = List·getD-eq-default (tabulate m (byteOf (bits y R))) 0 {n = j} (rw (tabulate-length (byteOf (bits y R)) m) h) in rw z (omega arith)
+
+    go : Tri j m → getD (tabulate m (byteOf (bits y R))) j 0 < 256
+    go (lt h) = rw (tabulate-entry (byteOf (bits y R)) m j h) (byte-fits (bits y R) j)
+    go (eq h) = behind (omega arith)
+    go (gt h) = behind (omega arith)
 
 pub bytes-length : (y : List ℕ) (R : ℕ) → length (treeBytes y R) ≡ treeLength (length y)
 unfolding treeBytes

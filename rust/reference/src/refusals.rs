@@ -51,6 +51,18 @@ pub fn of_reading(n: usize, tree: &[u8], tables: [usize; 2]) -> Vec<u32> {
     ])
 }
 
+/// The string of a tree, in a buffer of so many symbols: 1, 2, 3, 6, 7, 8.
+pub fn of_tree_string(n: usize, tree: &[u8], symbols: usize) -> Vec<u32> {
+    applying([
+        (1, too_long(n)),
+        (2, table_length(n, &[symbols])),
+        (3, tree_length(n, tree.len())),
+        (6, brackets::spare_bit_set(n, tree)),
+        (7, brackets::closed_too_early(n, tree)),
+        (8, brackets::left_open(n, tree)),
+    ])
+}
+
 /// Tree questions: 1, 3, 5 to 8.
 pub fn of_question(n: usize, tree: &[u8], position: usize) -> Vec<u32> {
     applying([

@@ -1,5 +1,7 @@
 //! Random numbers, strings and trees, the same in every run.
 
+use crate::refusals;
+
 /// Marsaglia's xorshift generator with 64 bits of state.
 #[derive(Debug, Clone)]
 pub struct Random(u64);
@@ -205,6 +207,13 @@ pub fn bases(random: &mut Random, n: usize) -> Vec<(&'static str, Vec<u8>)> {
     ]
 }
 
+/// Every balanced tree of `n` positions, `n` below 32.
+pub fn balanced_trees(n: usize) -> impl Iterator<Item = Vec<u8>> {
+    let bytes = move |bits: u64| bits.to_le_bytes()[..n.div_ceil(4)].to_vec();
+    let trees = (0..1 << (2 * n)).map(bytes);
+    trees.filter(move |tree| refusals::of_reading(n, tree, [n, n]).is_empty())
+}
+
 /// A random balanced tree of `n` positions. Where both brackets are possible, it opens with a
 /// probability of `openings` in 10.
 pub fn random_tree(random: &mut Random, n: usize, openings: usize) -> Vec<u8> {
@@ -235,7 +244,6 @@ pub fn one_root_over_leaves(n: usize) -> Vec<u8> {
 #[cfg(test)]
 mod tests {
     use super::*;
-    use crate::refusals;
 
     #[test]
     fn strings_are_as_named() {
@@ -290,6 +298,19 @@ mod tests {
             assert!(end - start >= 2 * period);
             let stretch = &letters[start..end];
             assert_eq!(stretch[period..], stretch[..end - start - period]);
+        }
+    }
+
+    #[test]
+    fn balanced_trees_are_as_many_as_the_catalan_numbers() {
+        let three: Vec<_> = balanced_trees(3).collect();
+        assert_eq!(
+            three,
+            [[0b000111], [0b001011], [0b001101], [0b010011], [0b010101]]
+        );
+        let catalan_numbers = [1, 1, 2, 5, 14, 42, 132, 429, 1430, 4862];
+        for (n, number) in catalan_numbers.into_iter().enumerate() {
+            assert_eq!(balanced_trees(n).count(), number, "trees of {n} positions");
         }
     }
 

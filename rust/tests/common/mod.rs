@@ -426,6 +426,52 @@ pub fn assert_read_refused(n: usize, tree: &[u8], tables: [usize; 2], number: u3
     }
 }
 
+/// Writes the string of a tree into lent memory of so many symbols, which it returns, and asserts that the
+/// tree is only read.
+fn tree_string(
+    n: usize,
+    tree: &[u8],
+    symbols: usize,
+    fill: Fill,
+) -> (Result<(), Refusal>, Guarded<u32>) {
+    let mut lent_tree = Guarded::new(tree.len(), fill);
+    lent_tree.lent().copy_from_slice(tree);
+    let mut symbols = Guarded::new(symbols, fill);
+    let outcome = lyndon::tree_string_into(n, lent_tree.lent(), symbols.lent());
+    assert_list("the tree", lent_tree.contents(), tree);
+    (outcome, symbols)
+}
+
+/// Asserts that the string of a tree of `n` positions is the expected one, in lent memory and in memory of its
+/// own.
+pub fn assert_tree_string(n: usize, tree: &[u8], expected: &[u32]) {
+    for fill in FILLS {
+        let (outcome, symbols) = tree_string(n, tree, n, fill);
+        assert_eq!(outcome, Ok(()), "the string at n = {n}");
+        assert_list("the string", symbols.contents(), expected);
+    }
+    let symbols = lyndon::tree_string(n, tree).expect("a balanced tree");
+    assert_list("the string", &symbols, expected);
+}
+
+/// Asserts that the string of a tree is refused in a buffer of so many symbols, and that nothing is written.
+pub fn assert_tree_string_refused(n: usize, tree: &[u8], symbols: usize, number: u32) {
+    for fill in FILLS {
+        let (outcome, symbols) = tree_string(n, tree, symbols, fill);
+        assert_eq!(
+            outcome.map_err(Refusal::number),
+            Err(number),
+            "the string at n = {n}"
+        );
+        symbols.assert_untouched();
+    }
+    // In memory of its own there is no refusal 2.
+    if number != 2 {
+        let refused = lyndon::tree_string(n, tree).map(drop);
+        assert_eq!(refused.map_err(Refusal::number), Err(number));
+    }
+}
+
 /// Asserts what the tree of `rows` rows of an `n`-letter string gives: read at n the whole tables, or
 /// refusal 7 where halted; and its first bytes, read with `rows` for n, the entries below `rows`.
 pub fn assert_tree_of_build(n: usize, structure: &Structure) {

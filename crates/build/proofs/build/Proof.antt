@@ -7,17 +7,16 @@ use lib.ListN.{length, replicate, length-replicate}
 use borrow.Author.Needs.{needs}
 use Rattle.suffix.specs.Ranks.{stringOf}
 use Rattle.suffix.specs.Tree.{treeLength, treeBytes}
-use Rattle.suffix.proofs.Rows.{tables-are}
 use Rattle.suffix.proofs.Bytes.{bytes-length}
 use Rattle.refusal.specs.Numbers.{verdictNumber}
 use Rattle.refusal.specs.Conditions.{buildRefusal}
 use Rattle.reuse.specs.Steps.{afterRows}
-use Rattle.entries.proofs.Clearing.{cleared-alike}
 use Rattle.build.specs.States.{progressOf, buildState}
 use Rattle.outcome.specs.Built.{Lent, lent, refusalOf}
 use Rattle.outcome.proofs.Answers.{Accepted}
 use Rattle.outcome.proofs.Answers as answers
 use Rattle.build.proofs.Parts.{part-whole}
+use Rattle.build.proofs.Clearing.{tables-cleared}
 use Rattle.build.proofs.build.Statement.{statement}
 use Rattle.build.proofs.build.Tie as tie
 
@@ -114,8 +113,7 @@ tree-is t =
 exact : (t : tie.After-clear-tables) → let s = start (told (built t)) in buildState (built t .build-rows .result) (after t .tables) ≡ afterRows (y s) (s .args .rows)
 exact t =
     let e = t .clear-tables .ensures in
-    ap (buildState (built t .build-rows .result)) (tables-are (e .0 ∙ cleared-alike _ (omega arith) (omega arith)) (e .1 ∙ cleared-alike _ (omega arith) (omega arith)) (e .2 ∙ cleared-alike _ (omega arith) (omega arith))
-    (e .3 ∙ cleared-alike _ (omega arith) (omega arith))) ∙ built t .build-rows .ensures .0
+    ap (buildState (built t .build-rows .result)) (tables-cleared _ (e .0) (e .1) (e .2) (e .3) (omega arith) (omega arith)) ∙ built t .build-rows .ensures .0
 
 returns-2 : tie.Need-returns-2
 returns-2 c =

@@ -135,14 +135,18 @@ settle-requires c κs =
     let s = start a in
     let S = a .walk .inv .sizes in
     let e = same s in
-    ((s .pre .0 .0, s .pre .0 .1), ((S .next ∙ e, S .previousMatch ∙ e, S .nextMatch ∙ e), rw e at (law.safe (a .walk .inv))))
+    ((s .pre .0 .0, s .pre .0 .1), ((S .next ∙ e, S .previousMatch ∙ e, S .nextMatch ∙ e), law.safe (a .walk .inv) e))
+
+-- the pair is settled
+told : (S : tie.After-settle Inv-walk μ-walk Inv-rows μ-rows) → law.Settled (head S .walk .inv) (S .settle .result)
+told S = record { pair = S .settle .ensures .0; rows-stay = S .settle .ensures .1 }
 
 record-entry-requires-3 : tie.Need-record-entry-requires-3 Inv-walk μ-walk Inv-rows μ-rows
-record-entry-requires-3 c κs = let S = settled (c .before .before) in law.next-fits (head S .walk .inv) (S .settle .result) (S .settle .ensures) (few (start (head S)))
+record-entry-requires-3 c κs = let S = settled (c .before .before) in law.next-fits (head S .walk .inv) (told S) (few (start (head S)))
 
 advances : (S : tie.After-settle Inv-walk μ-walk Inv-rows μ-rows) → let a = head S in
     rows-start (rows-head (row (pended a))) .args .rows - S .settle .result .state .rows < rows-start (rows-head (row (pended a))) .args .rows - rows-head (row (pended a)) .rows .state .rows
-advances S = law.advances (head S .walk .inv) (S .settle .result) (S .settle .ensures) _ refl
+advances S = law.advances (head S .walk .inv) (told S) _ refl
 
 -- the tree keeps its length
 tree-long : (e : tie.After-record-entry Inv-walk μ-walk Inv-rows μ-rows) → length (bit-set e .set-bit .last .0) ≡ length (rows-start (rows-head e) .args .tree .now)
@@ -152,7 +156,7 @@ tree-stays : (a : tie.At-walk Inv-walk μ-walk Inv-rows μ-rows) → length (bit
 tree-stays a = tree-long (row (pended a))
 
 rows-again : tie.Need-rows-again Inv-walk μ-walk Inv-rows μ-rows
-rows-again c = let S = c .before .before in (law.ends-left (head S .walk .inv) (S .settle .result) (S .settle .ensures) (c .if3 .taken), tree-stays (head S))
+rows-again c = let S = c .before .before in (law.ends-left (head S .walk .inv) (told S) (c .if3 .taken), tree-stays (head S))
 
 -- next[l] is recorded
 next-recorded : (i : tie.After-record-entry3 Inv-walk μ-walk Inv-rows μ-rows) → let S = settled (right i) in let a = head S in
@@ -166,7 +170,7 @@ rows-again-2 : tie.Need-rows-again-2 Inv-walk μ-walk Inv-rows μ-rows
 rows-again-2 c =
     let i = c .before .before .before .before .before in
     let S = settled (right i) in
-    (law.ends-none (head S .walk .inv) (S .settle .result) (S .settle .ensures) (right i .if3 .left) (next-recorded i) (c .if4 .taken ∙ sym (same (start (head S)))), tree-stays (head S))
+    (law.ends-none (head S .walk .inv) (told S) (right i .if3 .left) (next-recorded i) (c .if4 .taken ∙ sym (same (start (head S)))), tree-stays (head S))
 
 -- previous[l] is not none
 module _ (e : tie.Else4 Inv-walk μ-walk Inv-rows μ-rows) where
@@ -180,15 +184,15 @@ module _ (e : tie.Else4 Inv-walk μ-walk Inv-rows μ-rows) where
   some q = e .if4 .left (q ∙ same (start a))
 
   falls : a .walk .p < a .walk .l
-  falls = law.falls (a .walk .inv) (S .settle .result) (S .settle .ensures) (right (recorded e) .if3 .left) (next-recorded (recorded e)) some
+  falls = law.falls (a .walk .inv) (told S) (right (recorded e) .if3 .left) (next-recorded (recorded e)) some
 
   p-in : (a .walk .p < length (row (pended a) .record-entry .last .0)) × (a .walk .p < length (row (pended a) .record-entry .last .1 .0))
-  p-in = law.p-in (a .walk .inv) (S .settle .result) (S .settle .ensures) (right (recorded e) .if3 .left) (next-recorded (recorded e)) some
+  p-in = law.p-in (a .walk .inv) (told S) (right (recorded e) .if3 .left) (next-recorded (recorded e)) some
 
 rows-again-3 : tie.Need-rows-again-3 Inv-walk μ-walk Inv-rows μ-rows
 rows-again-3 c =
     let e = c .before in (
-      law.ends-less (a e .walk .inv) (S e .settle .result) (S e .settle .ensures) (right (recorded e) .if3 .left) (next-recorded (recorded e)) (some e) (omega (arith, c .if5 .taken)),
+      law.ends-less (a e .walk .inv) (told (S e)) (right (recorded e) .if3 .left) (next-recorded (recorded e)) (some e) (omega (arith, c .if5 .taken)),
       tree-stays (a e),
     )
 
@@ -196,7 +200,7 @@ walk-again : tie.Need-walk-again Inv-walk μ-walk Inv-rows μ-rows
 walk-again c =
     let f = c .before .before in
     let e = f .before .before .before in
-    law.goes (a e .walk .inv) (S e .settle .result) (S e .settle .ensures) (right (recorded e) .if3 .left) (next-recorded (recorded e)) (some e) (omega (arith, f .before .before .if5 .left))
+    law.goes (a e .walk .inv) (told (S e)) (right (recorded e) .if3 .left) (next-recorded (recorded e)) (some e) (omega (arith, f .before .before .if5 .left))
     (f .read .ensures .0) (c .read2 .ensures .0)
 
 -- where all rows are done: its entries and the tree's bit are written
@@ -245,7 +249,7 @@ build-rows-spec =
     (λ c. advances (c .before .before))
     rows-again
     record-entry-requires-3
-    (λ c. let a = head (settled (right (c .before .before .before .before))) in omega (arith, a .walk .inv, few (start a)))
+    (λ c. let a = head (settled (right (c .before .before .before .before))) in omega (arith, law.bit-low (a .walk .inv), few (start a)))
     (λ c. advances (settled (right (c .before .before .before .before .before))))
     rows-again-2
     (λ c. advances (S (c .before)))

@@ -1,0 +1,3 @@
+pub mod TreeString
+pub mod Claims
+pub mod Steps
