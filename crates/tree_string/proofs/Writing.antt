@@ -67,7 +67,7 @@ waiting-length : (fs : List Forest) → length (waiting fs) ≡ length fs
 waiting-length [] = refl
 waiting-length (f ∷ fs) = length-append (waiting fs) ((closings fs + size f) ∷ []) ∙ omega (arith, waiting-length fs)
 
--- ---- the brackets g, 2n of them, are written from bit k on: f stands behind bit k, and fs behind it with closings between
+-- ---- the brackets g, 2n of them, are numbered from bit k on: f stands behind bit k, and fs behind it with closings between
 
 pub record At (g : ℕ → Bool) (n k : ℕ) (s : Numbered) (f : Forest) (fs : List Forest) : Type 0 where
   within : k ≤ 2 * n
