@@ -43,7 +43,7 @@ fn number_bracket(opening: usize, s: Numbering, symbols: &mut [u32]) -> Numberin
 }
 
 // Writes the string of a tree that is not refused, in one pass from the last bracket. Where all closings are numbered, openings alone are
-// left, and their numbers stand where they belong. No bracket of a whole byte is tested for the end.
+// left, and their numbers stand where they belong. Each whole byte is read once.
 fn fill(n: usize, tree: &[u8], symbols: &mut [u32])
     requires { ⌜ (treeRefusal n (now tree) ≡ 0) × (length (now symbols) ≡ n) ⌝ }
     ensures { λ _. ⌜ now (symbols .exit) ≡ treeString n (now (tree .entry)) ⌝ }
