@@ -6,18 +6,21 @@ ghost use Rattle.checker.specs.Checked.{CheckedExactly};
 ghost use Rattle.brackets.specs.Answers.{ReadBack};
 ghost use Rattle.questions.specs.Answers.{previousAnswer, nextAnswer, placeAnswer};
 ghost use Rattle.tree_string.specs.TreeString.{StringWritten};
+ghost use Rattle.small_trees.specs.Answers.{FirstGiven, NextGiven};
 ghost use Rattle.repeats.specs.Refusals.{lists};
 ghost use Rattle.runs.specs.Reported.{workOf, Reported};
 ghost use Rattle.cabinet.specs.Answers.{Written};
-ghost use Rattle.replies.specs.Replies.{Replied, buildReply, reply, checkReply, wordReply, cabinetReply};
+ghost use Rattle.replies.specs.Replies.{Replied, buildReply, reply, nextReply, checkReply, wordReply, cabinetReply};
 ghost use Rattle.replies.specs.Version.{interfaceVersion};
 use replies::BuildReply;
 use replies::CabinetReply;
 use replies::CheckReply;
+use replies::NextReply;
 use replies::PartReply;
 use replies::Reply;
 use replies::build_reply;
 use replies::check_reply;
+use replies::next_reply;
 use replies::part_reply;
 use replies::reply_of;
 
@@ -97,6 +100,20 @@ pub extern "C" fn lyndon_tree_string(n: usize, tree: &[u8], symbols: &mut [u32])
     ensures { λ r. ⌜ StringWritten n (now (tree .entry)) (now (symbols .entry)) (now (symbols .exit)) r ⌝ }
 {
     refusal::verdict_number(tree_string::write(n, tree, symbols))
+}
+
+#[no_mangle]
+pub extern "C" fn lyndon_first_tree(size: usize, tree: &mut [u8]) -> u32
+    ensures { λ r. ⌜ FirstGiven size (now (tree .entry)) (now (tree .exit)) r ⌝ }
+{
+    refusal::verdict_number(small_trees::first(size, tree))
+}
+
+#[no_mangle]
+pub extern "C" fn lyndon_next_tree(size: usize, tree: &mut [u8]) -> NextReply
+    ensures { λ r. ⌜ Replied nextReply (NextGiven size (now (tree .entry)) (now (tree .exit))) r ⌝ }
+{
+    next_reply(small_trees::next(size, tree))
 }
 
 #[no_mangle]

@@ -12,7 +12,7 @@ use Rattle.suffix.specs.Search.{tabulate}
 use Rattle.suffix.proofs.Cases.{Same, same, other, same?}
 use Rattle.suffix.proofs.Search.{tabulate-length, tabulate-entry}
 use Rattle.refusal.specs.declared.Refusal.{Refusal}
-use Rattle.refusal.specs.declared.Refusal.the-variants.{TooLong, TableLength, TreeLength, TooManyRows, PositionOutside, SpareBitSet, ClosedTooEarly, LeftOpen, NotMarked, TooManyEntries, WrongContents, ListLengths, TooManyRuns}
+use Rattle.refusal.specs.declared.Refusal.the-variants.{TooLong, TableLength, TreeLength, TooManyRows, PositionOutside, SpareBitSet, ClosedTooEarly, LeftOpen, NotMarked, TooManyEntries, WrongContents, ListLengths, TooManyRuns, SizeOutside}
 use Rattle.refusal.specs.declared.Verdict.{Verdict}
 use Rattle.refusal.specs.declared.Verdict.the-variants.{Accepted, Refused}
 use Rattle.refusal.specs.Numbers.{numberOf, lowestFrom, firstOf, unlessRefused, numberIf, verdictNumber}
@@ -33,6 +33,7 @@ positive TooManyEntries = omega arith
 positive WrongContents = omega arith
 positive ListLengths = omega arith
 positive TooManyRuns = omega arith
+positive SizeOutside = omega arith
 
 -- where none is returned, the first condition does not apply, and none of the others
 pub none-applies : (k : ℕ) (b : Bool) (others : List Bool) → lowestFrom (suc k) (b ∷ others) ≡ 0 → (b ≡ false) × (lowestFrom (suc (suc k)) others ≡ 0)

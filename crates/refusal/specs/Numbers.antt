@@ -4,13 +4,13 @@ use mathlib.Core.List.{List, [], _∷_}
 use Prim.Native.Nat.{ℕ, suc}
 use lib.Dec.{eqb}
 use Rattle.refusal.specs.declared.Refusal.{Refusal}
-use Rattle.refusal.specs.declared.Refusal.the-variants.{TooLong, TableLength, TreeLength, TooManyRows, PositionOutside, SpareBitSet, ClosedTooEarly, LeftOpen, NotMarked, TooManyEntries, WrongContents, ListLengths, TooManyRuns}
+use Rattle.refusal.specs.declared.Refusal.the-variants.{TooLong, TableLength, TreeLength, TooManyRows, PositionOutside, SpareBitSet, ClosedTooEarly, LeftOpen, NotMarked, TooManyEntries, WrongContents, ListLengths, TooManyRuns, SizeOutside}
 use Rattle.refusal.specs.declared.Verdict.{Verdict}
 use Rattle.refusal.specs.declared.Verdict.the-variants.{Accepted, Refused}
 
 -- "1: n above 1,000,000." to "8: no such place, but not all are closed."; T-01: "10 for a count above 64; 11 where the contents are cut
 -- short" and the rest of that sentence; T-03: "12 where the three lists differ in length, and 13 exactly where there are more runs than entries";
--- T-04: "9 now means a file under 8 bytes or with neither mark."
+-- T-04: "9 now means a file under 8 bytes or with neither mark."; T-09: "14 for a size outside 1 to 12"
 abbrev pub numberOf : Refusal → ℕ
 numberOf TooLong = 1
 numberOf TableLength = 2
@@ -25,6 +25,7 @@ numberOf TooManyEntries = 10
 numberOf WrongContents = 11
 numberOf ListLengths = 12
 numberOf TooManyRuns = 13
+numberOf SizeOutside = 14
 
 -- the number of a verdict: 0 where nothing is refused
 abbrev pub verdictNumber : Verdict → ℕ

@@ -1,4 +1,4 @@
-// Why an operation refuses: document 01, "Who can cause which refusal", and document 02, T-01, T-03 and T-04.
+// Why an operation refuses: document 01, "Who can cause which refusal", and document 02, T-01, T-03, T-04 and T-09.
 ghost use mathlib.Core.Path.{_≡_};
 ghost use Rattle.refusal.specs.Numbers.{numberOf, verdictNumber};
 ghost use Rattle.refusal.specs.Conditions.{buildRefusal, tablesRefusal};
@@ -18,6 +18,7 @@ pub enum Refusal {
     WrongContents,
     ListLengths,
     TooManyRuns,
+    SizeOutside,
 }
 
 // A number that is asked for, or why there is none.
@@ -50,6 +51,7 @@ pub fn number(refusal: Refusal) -> u32
         Refusal::WrongContents => 11,
         Refusal::ListLengths => 12,
         Refusal::TooManyRuns => 13,
+        Refusal::SizeOutside => 14,
     }
 }
 

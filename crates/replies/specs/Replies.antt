@@ -9,11 +9,13 @@ use Rattle.suffix.specs.Lyndon.{longestLyndon}
 use Rattle.refusal.specs.Conditions.{wordRefusal}
 use Rattle.outcome.specs.Built as build
 use Rattle.checker.specs.Checked as checker
+use Rattle.small_trees.specs.Answers as small_trees
 use Rattle.refusal.specs.Answers as refusal
 use Rattle.cabinet.specs.Refusals.{readRefusal}
 use Rattle.cabinet.specs.Answers.{readBody, readPlace, readLetters, readMark}
 use Rattle.replies.specs.declared.BuildReply.{BuildReply}
 use Rattle.replies.specs.declared.Reply.{Reply}
+use Rattle.replies.specs.declared.NextReply.{NextReply}
 use Rattle.replies.specs.declared.CheckReply.{CheckReply}
 use Rattle.replies.specs.declared.PartReply.{PartReply}
 use Rattle.replies.specs.declared.CabinetReply.{CabinetReply}
@@ -35,6 +37,12 @@ buildReply (build.refused number) = record { refusal = number; finished = 0; row
 unfoldable pub reply : refusal.Figures → Reply
 reply (refusal.value v) = record { refusal = 0; value = v }
 reply (refusal.refused number) = record { refusal = number; value = 0 }
+
+-- going on from a tree of a small size
+abbrev pub nextReply : small_trees.Going → NextReply
+nextReply small_trees.next = record { refusal = 0; last = 0 }
+nextReply small_trees.last = record { refusal = 0; last = 1 }
+nextReply (small_trees.refused number) = record { refusal = number; last = 0 }
 
 -- a check
 abbrev pub checkReply : checker.Finding → CheckReply

@@ -3,14 +3,16 @@ ghost use mathlib.Core.Path.{_≡_};
 ghost use Rattle.outcome.specs.Built.{figuresOf as builtFigures};
 ghost use Rattle.checker.specs.Checked.{findingOf};
 ghost use Rattle.refusal.specs.Answers.{figuresOf};
+ghost use Rattle.small_trees.specs.Answers.{goingOf};
 ghost use Rattle.replies.specs.Version.{interfaceVersion};
-ghost use Rattle.replies.specs.Replies.{buildReply, reply, checkReply, partReply};
+ghost use Rattle.replies.specs.Replies.{buildReply, reply, nextReply, checkReply, partReply};
 use checker::Checked;
 use outcome::Built;
 use refusal::Answer;
+use small_trees::Step;
 
 // LYNDON_VERSION of the header.
-const VERSION: u32 = 6;
+const VERSION: u32 = 7;
 
 pub fn version() -> u32
     ensures { λ r. ⌜ r ≡ interfaceVersion ⌝ }
@@ -32,6 +34,12 @@ pub struct BuildReply {
 pub struct Reply {
     pub refusal: u32,
     pub value: usize,
+}
+
+#[repr(C)]
+pub struct NextReply {
+    pub refusal: u32,
+    pub last: u32,
 }
 
 #[repr(C)]
@@ -99,6 +107,25 @@ pub fn reply_of(answer: Answer) -> Reply
         Answer::NoValue(k) => Reply {
             refusal: refusal::number(k),
             value: 0,
+        },
+    }
+}
+
+pub fn next_reply(step: Step) -> NextReply
+    ensures { λ r. ⌜ r ≡ nextReply (goingOf step) ⌝ }
+{
+    match step {
+        Step::Next => NextReply {
+            refusal: 0,
+            last: 0,
+        },
+        Step::Last => NextReply {
+            refusal: 0,
+            last: 1,
+        },
+        Step::Refused(k) => NextReply {
+            refusal: refusal::number(k),
+            last: 0,
         },
     }
 }

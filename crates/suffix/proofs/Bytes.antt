@@ -28,24 +28,25 @@ byte-fits : (g : ℕ → Bool) (j : ℕ) → byteOf g j < 256
 unfolding byteOf
 byte-fits g j = weights-fit (λ i. g (8 * j + i)) 8
 
+-- all bytes of the bits g
+pub bytes-fit : (g : ℕ → Bool) (m j : ℕ) → getD (tabulate m (byteOf g)) j 0 < 256
+bytes-fit g m j = go (tri j m)
+  where
+    behind : m ≤ j → getD (tabulate m (byteOf g)) j 0 < 256
+    behind h = let z = List·getD-eq-default (tabulate m (byteOf g)) 0 {n = j} (rw (tabulate-length (byteOf g) m) h) in rw z (omega arith)
+
+    go : Tri j m → getD (tabulate m (byteOf g)) j 0 < 256
+    go (lt h) = rw (tabulate-entry (byteOf g) m j h) (byte-fits g j)
+    go (eq h) = behind (omega arith)
+    go (gt h) = behind (omega arith)
+
 -- the bits of the tree after R rows
 abbrev bits : List ℕ → ℕ → ℕ → Bool
 bits y R k = getD (treeAfter y R) k false
 
-pub bytes-fit : (y : List ℕ) (R j : ℕ) → getD (treeBytes y R) j 0 < 256
+pub tree-fits : (y : List ℕ) (R j : ℕ) → getD (treeBytes y R) j 0 < 256
 unfolding treeBytes
-bytes-fit y R j = go (tri j m)
-  where
-    m : ℕ
-    m = treeLength (length y)
-
-    behind : m ≤ j → getD (tabulate m (byteOf (bits y R))) j 0 < 256
-    behind h = let z = List·getD-eq-default (tabulate m (byteOf (bits y R))) 0 {n = j} (rw (tabulate-length (byteOf (bits y R)) m) h) in rw z (omega arith)
-
-    go : Tri j m → getD (tabulate m (byteOf (bits y R))) j 0 < 256
-    go (lt h) = rw (tabulate-entry (byteOf (bits y R)) m j h) (byte-fits (bits y R) j)
-    go (eq h) = behind (omega arith)
-    go (gt h) = behind (omega arith)
+tree-fits y R j = bytes-fit (bits y R) (treeLength (length y)) j
 
 pub bytes-length : (y : List ℕ) (R : ℕ) → length (treeBytes y R) ≡ treeLength (length y)
 unfolding treeBytes

@@ -8,7 +8,7 @@ use Rattle.suffix.specs.Search.{tabulate}
 use Rattle.suffix.specs.Nearest.{previous, next, previousMatch, nextMatch}
 use Rattle.suffix.specs.Tree.{Forest, forestAfter, treeBytes}
 use Rattle.suffix.proofs.Search.{tabulate-is}
-use Rattle.suffix.proofs.Bytes.{bytes-fit}
+use Rattle.suffix.proofs.Bytes.{tree-fits}
 use Rattle.suffix.proofs.Laws.{allRowsGiveAllEntries}
 use Rattle.refusal.specs.Conditions.{treeRefusal}
 use Rattle.refusal.proofs.Tables.{Taken, none-refused, says-taken}
@@ -83,7 +83,7 @@ module _ (n : ℕ) (t : List ℕ) (e : treeRefusal n t ≡ 0) where
   gives-back : AreBytes t → GivesBack n t s
   gives-back b =
       record {
-        tree = equalTablesEqualTrees n (treeBytes s n) t (previousTable n t) (nextTable n t) (bytes-fit s n) b built (treesHaveTables n t e);
+        tree = equalTablesEqualTrees n (treeBytes s n) t (previousTable n t) (nextTable n t) (tree-fits s n) b built (treesHaveTables n t e);
         previous = previous-is;
         next = next-is;
         previousMatch = no-entries (previousMatch s) (no-previous-match s differ);

@@ -1,0 +1,5 @@
+pub mod Changing
+pub mod Turning
+pub mod Answering
+pub mod Laws
+pub mod Examples

@@ -1,0 +1,121 @@
+// The trees of a small size, one after the other in the same buffer.
+ghost use mathlib.Core.Path.{_≡_};
+ghost use Prim.Native.Nat.{_%_, _≤_};
+ghost use lib.ListN.{length};
+ghost use Rattle.suffix.specs.Tree.{byteOf};
+ghost use Rattle.refusal.specs.Numbers.{verdictNumber};
+ghost use Rattle.refusal.specs.Conditions.{byteBit, treeRefusal};
+ghost use Rattle.small_trees.specs.Answers.{sizeOutside, goingOf, FirstGiven, NextGiven};
+ghost use Rattle.small_trees.specs.Steps.{changedBit, changedTree, Stepped};
+use excess::bit;
+use excess::is_open;
+use refusal::Refusal;
+use refusal::Verdict;
+use suffix::tree_length;
+
+// What came of going on from a tree: the next one is in the buffer, or there is none.
+pub enum Step {
+    Next,
+    Last,
+    Refused(Refusal),
+}
+
+fn is_outside(size: usize) -> bool
+    ensures { λ r. ⌜ r ≡ sizeOutside size ⌝ }
+{
+    size == 0 || size > 12
+}
+
+// Bit q of changed brackets: before bit k as it is in its byte, and from there on an opening from `from` on and below `to`.
+fn changed_bit(byte: u8, k: usize, from: usize, to: usize, q: usize) -> bool
+    ensures { λ r. ⌜ r ≡ changedBit (byteBit byte (q % 8)) k from to q ⌝ }
+{
+    if q < k {
+        return bit(byte, q);
+    }
+    if q < from {
+        return false;
+    }
+    q < to
+}
+
+// Byte j of changed brackets.
+fn changed_byte(byte: u8, j: usize, k: usize, from: usize, to: usize) -> u8
+    requires { ⌜ j ≤ 3 ⌝ }
+    ensures { λ r. ⌜ r ≡ byteOf (λ q. changedBit (byteBit byte (q % 8)) k from to q) j ⌝ }
+{
+    let mut value = 0u32;
+    let mut weight = 1u32;
+    let mut m = 0;
+    while m < 8 {
+        let q = 8 * j + m;
+        let here = weight;
+        weight = 2 * weight;
+        m += 1;
+        if changed_bit(byte, k, from, to, q) {
+            value += here;
+        }
+    }
+    value as u8
+}
+
+// Changes the brackets from bit k on.
+fn change(tree: &mut [u8], k: usize, from: usize, to: usize)
+    requires { ⌜ length (now tree) ≤ 3 ⌝ }
+    ensures { λ _. ⌜ now (tree .exit) ≡ changedTree (now (tree .entry)) k from to ⌝ }
+{
+    let mut j = 0;
+    while j < tree.len() {
+        tree[j] = changed_byte(tree[j], j, k, from, to);
+        j += 1;
+    }
+}
+
+// Writes the first tree of a size: refusals 14, 3.
+pub fn first(size: usize, tree: &mut [u8]) -> Verdict
+    ensures { λ r. ⌜ FirstGiven size (now (tree .entry)) (now (tree .exit)) (verdictNumber r) ⌝ }
+{
+    if is_outside(size) {
+        return Verdict::Refused(Refusal::SizeOutside);
+    }
+    if tree.len() != tree_length(size) {
+        return Verdict::Refused(Refusal::TreeLength);
+    }
+    change(tree, 0, 0, size);
+    Verdict::Accepted
+}
+
+// Goes on from a tree that is not refused: the last opening in front of which something is open becomes a closing, and behind it come
+// the openings that are left and then closings.
+fn go_on(size: usize, tree: &mut [u8]) -> Step
+    requires { ⌜ (size ≤ 12) × (treeRefusal size (now tree) ≡ 0) ⌝ }
+    ensures { λ r. ⌜ Stepped size (now (tree .entry)) (now (tree .exit)) (goingOf r) ⌝ }
+{
+    let mut k = 2 * size;
+    let mut openings = 0;
+    while k > 0 {
+        k -= 1;
+        if is_open(tree, k) {
+            openings += 1;
+            if k + 2 * openings < 2 * size {
+                change(tree, k, k + 1, k + 1 + openings);
+                return Step::Next;
+            }
+        }
+    }
+    Step::Last
+}
+
+// Writes the tree after a tree, or tells that it is the last: refusals 14, 3, 6, 7, 8.
+pub fn next(size: usize, tree: &mut [u8]) -> Step
+    ensures { λ r. ⌜ NextGiven size (now (tree .entry)) (now (tree .exit)) (goingOf r) ⌝ }
+{
+    if is_outside(size) {
+        return Step::Refused(Refusal::SizeOutside);
+    }
+    let verdict = brackets::verdict_on(size, tree);
+    match verdict {
+        Verdict::Refused(refusal) => Step::Refused(refusal),
+        Verdict::Accepted => go_on(size, tree),
+    }
+}
