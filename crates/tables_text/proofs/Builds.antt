@@ -4,7 +4,7 @@ use mathlib.Core.Bool.{false}
 use mathlib.Core.List.{List, [], _∷_}
 use Prim.Native.Nat.{ℕ, zero, suc, _≤_, _<_}
 use native.Mathlib.Omega.{arith}
-use lib.ListN.{length, getD, take}
+use lib.ListN.{length, getD, take, length-append}
 use borrow.Author.Tests.{lt-ltb, le-ltb, eq-eqb}
 use Rattle.suffix.specs.Ranks.{ranks}
 use Rattle.suffix.specs.Search.{tabulate}
@@ -21,10 +21,10 @@ use Rattle.reuse.proofs.Laws.{stepsAreExact}
 use Rattle.outcome.specs.Built.{Lent, lentAfter, Figures, figuresAt, refusalOf, answer, BuiltExactly}
 use Rattle.outcome.proofs.Answers.{left-built}
 use Rattle.tables_text.specs.Text.{headText, lines, tablesText, tooLongText, programText, Rendered}
-use Rattle.writing.specs.Writing.{Wrote}
+use Rattle.writing.specs.Writing.{Put}
 use Rattle.tables_text.specs.Buffers.{Room, WholeBuild, countOf, mostCompared}
-use Rattle.writing.proofs.Writes.{wrote-then}
-use Rattle.tables_text.proofs.Sizes.{head-most}
+use Rattle.writing.proofs.Writes.{put-fits, put-then}
+use Rattle.tables_text.proofs.Sizes.{lines-most, head-most}
 
 taken : {n p q pm qm t : ℕ} → Room n p q pm qm t → buildRefusal n n p q pm qm t ≡ 0
 unfolding buildRefusal lowest lowestFrom
@@ -105,21 +105,21 @@ tree-small : (y : List ℕ) → length y ≤ 2048 → length (treeBytes y (lengt
 unfolding treeBytes
 tree-small y h = let z = tabulate-length (byteOf (λ k. getD (treeAfter y (length y)) k false)) (treeLength (length y)) in omega arith
 
-pub head-fits :
-    {p q t : List ℕ} {c : ℕ} (letters : List ℕ)
-    → WholeBuild (ranks letters) p q t c → length letters ≤ 2048 → length (headText (length letters) c t) ≤ 1100
-head-fits {p} {q} {t} {c} letters w h =
-    let small = tree-small (ranks letters) (omega (arith, ranks-length letters)) in
-    head-most (length letters) c t (omega (arith, ap length (w .tree), small))
+tables-most : (letters : List ℕ) → length letters ≤ 2048 → length (tablesText (ranks letters)) ≤ 180000
+unfolding tablesText
+tables-most letters h =
+    let y = ranks letters in
+    let few : length y ≤ 2048 = omega (arith, ranks-length letters) in
+    simp length-append (omega (arith, head-most (length y) (comparisons y (length y)) (treeBytes y (length y)) (tree-small y few), lines-most y (length y)))
 
-pub wrote-tables :
+pub tables-put :
     {p q t u v w : List ℕ} {c x z : ℕ} (letters : List ℕ)
     → WholeBuild (ranks letters) p q t c
-    → Wrote u v (headText (length letters) c t) 0 x
-    → Wrote v w (lines (ranks letters) (length letters)) x z
-    → Wrote u w (tablesText (ranks letters)) 0 z
+    → Put u v (headText (length letters) c t) 0 x
+    → Put v w (lines (ranks letters) (length letters)) x z
+    → Put u w (tablesText (ranks letters)) 0 z
 unfolding tablesText
-wrote-tables letters b h l = rw (ranks-length letters) (wrote-then (rw (b .count, b .tree, ranks-length letters) at h) l)
+tables-put letters b h l = rw (ranks-length letters) (put-then (rw (b .count, b .tree, ranks-length letters) at h) l)
 
 text-long : (y : List ℕ) → 2048 < length y → programText y ≡ tooLongText
 unfolding programText
@@ -129,15 +129,15 @@ text-tables : (letters : List ℕ) → length letters ≤ 2048 → programText l
 unfolding programText
 text-tables letters h = rw (le-ltb 2048 (length letters) h)
 
-rendered : {y a b t : List ℕ} {r : ℕ} → programText y ≡ t → Wrote a b t 0 r → Rendered y a b r
-rendered e w = record { size = omega (arith, w .size, ap length e); text = w .text ∙ sym e; rest = w .rest }
+rendered : {y a b t : List ℕ} {r : ℕ} → programText y ≡ t → length t ≤ length a → Put a b t 0 r → Rendered y a b r
+rendered e h p = let w = put-fits p (omega arith) in record { size = omega (arith, w .size, ap length e); text = w .text ∙ sym e; rest = w .rest }
 
-pub rendered-long : (y : List ℕ) → 2048 < length y → {a b : List ℕ} {r : ℕ} → Wrote a b tooLongText 0 r → Rendered y a b r
-rendered-long y h w = rendered (text-long y h) w
+pub rendered-long : (y : List ℕ) → 2048 < length y → {a b : List ℕ} {r : ℕ} → 180000 ≤ length a → Put a b tooLongText 0 r → Rendered y a b r
+rendered-long y h room p = rendered (text-long y h) (omega arith) p
 
 pub rendered-tables :
-    (letters : List ℕ) → length letters ≤ 2048 → {a b : List ℕ} {r : ℕ} → Wrote a b (tablesText (ranks letters)) 0 r → Rendered letters a b r
-rendered-tables letters h w = rendered (text-tables letters h) w
+    (letters : List ℕ) → length letters ≤ 2048 → {a b : List ℕ} {r : ℕ} → 180000 ≤ length a → Put a b (tablesText (ranks letters)) 0 r → Rendered letters a b r
+rendered-tables letters h room p = rendered (text-tables letters h) (omega (arith, tables-most letters h)) p
 
 take-fits : (r : ℕ) (l : List ℕ) → length (take r l) ≡ r → r ≤ length l
 take-fits zero l e = omega arith

@@ -7,7 +7,8 @@ use Rattle.suffix.specs.Order.{lexLess, suffixLess}
 use Rattle.suffix.specs.Nearest.{previous, next}
 use Rattle.suffix.specs.Tree.{hanging, forestAfter, parentheses, byteOf, treeAfter, treeBytes}
 use Rattle.reuse.specs.Steps.{scan, scanFrom, reuse, settle, recordPrevious, recordNext, climb, advance, advances, stateOf, rowStart, row, start, afterRows}
-use Rattle.tables_text.specs.Text.{places, decimal, hexes, treeText, field, orDash, lineText, figure, headText, lines, tablesText, programText}
+use Rattle.writing.specs.Text.{places, decimal, hexes}
+use Rattle.tables_text.specs.Text.{treeText, field, orDash, lineText, figure, headText, lines, tablesText, programText}
 
 banana :
     programText (98 ∷ 97 ∷ 110 ∷ 97 ∷ 110 ∷ 97 ∷ [])

@@ -1,4 +1,3 @@
-pub mod Places
 pub mod Sizes
 pub mod Builds
 pub mod Examples

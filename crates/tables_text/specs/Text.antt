@@ -2,28 +2,14 @@
 use mathlib.Core.Path.{_≡_}
 use mathlib.Core.Bool.{cond}
 use mathlib.Core.List.{List, [], _∷_, _++_}
-use Prim.Native.Nat.{ℕ, zero, suc, _-_, _/_}
+use Prim.Native.Nat.{ℕ, zero, suc, _-_}
 use lib.Dec.{ltb, eqb}
-use lib.ListN.{length, getD, take, drop}
-use Rattle.io.specs.Digits.{digits}
+use lib.ListN.{length, take, drop}
 use Rattle.suffix.specs.Ranks.{ranks}
 use Rattle.suffix.specs.Nearest.{previous, next}
 use Rattle.suffix.specs.Tree.{treeBytes}
 use Rattle.reuse.specs.Steps.{comparisons}
-
--- the number of decimal digits of n, up to f + 1
-unfoldable pub places : ℕ → ℕ → ℕ
-places zero n = 1
-places (suc f) n = cond (ltb n 10) 1 (suc (places f (n / 10)))
-
--- n in decimal; no number of 64 bits has more than 20 digits
-unfoldable pub decimal : ℕ → List ℕ
-decimal n = digits 10 (places 19 n) n
-
--- the first k bytes of t in hexadecimal, two digits each
-unfoldable pub hexes : List ℕ → ℕ → List ℕ
-hexes t zero = []
-hexes t (suc k) = hexes t k ++ digits 16 2 (getD t k 0)
+use Rattle.writing.specs.Text.{decimal, hexes}
 
 -- "the tree in lower-case hexadecimal, or - when n is 0": it has no byte then, and only then
 unfoldable pub treeText : List ℕ → List ℕ

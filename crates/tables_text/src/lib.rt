@@ -3,76 +3,30 @@ use libc::STDIN_FILENO;
 use libc::STDOUT_FILENO;
 use outcome::Built;
 use suffix::tree_length;
+use writing::put;
+use writing::put_byte;
+use writing::put_decimal;
+use writing::put_hexes;
 ghost use mathlib.Core.Path.{_≡_};
-ghost use mathlib.Core.List.{[], _∷_};
-ghost use Prim.Native.Nat.{_+_, _≤_, _<_};
+ghost use Prim.Native.Nat.{_≤_};
 ghost use lib.ListN.{length};
-ghost use Rattle.io.specs.Digits.{digits};
 ghost use Rattle.suffix.specs.Ranks.{ranks};
 ghost use Rattle.outcome.specs.Built.{figuresOf};
-ghost use Rattle.tables_text.specs.Text.{decimal, hexes, treeText, field, orDash, figure, lines, lineText, headText, tablesText, Rendered};
-ghost use Rattle.writing.specs.Writing.{Wrote};
+ghost use Rattle.tables_text.specs.Text.{treeText, field, orDash, figure, lines, lineText, headText, tablesText, Rendered};
+ghost use Rattle.writing.specs.Writing.{Put};
 ghost use Rattle.tables_text.specs.Buffers.{Room, Nearests, WholeBuild, countOf, mostCompared};
 
-fn wide(x: u8) -> u64
-    ensures { λ r. ⌜ r ≡ x ⌝ }
-{
-    x as u64
-}
-
-fn entry(x: u32) -> usize
-    ensures { λ r. ⌜ r ≡ x ⌝ }
-{
-    x as usize
-}
-
-// Puts s into out at a place, and answers the place behind it. So does each function below, with its own text.
-fn put(out: &mut [u8], at: usize, s: &[u8]) -> usize
-    requires { ⌜ at + length (now s) ≤ length (now out) ⌝ }
-    ensures { λ r. ⌜ Wrote (now (out .entry)) (now (out .exit)) (now (s .entry)) at r ⌝ }
-{
-    let n = bytes::copy(s, &mut out[at..]);
-    at + n
-}
-
-fn put_decimal(out: &mut [u8], at: usize, n: usize) -> usize
-    requires { ⌜ at + length (decimal n) ≤ length (now out) ⌝ }
-    ensures { λ r. ⌜ Wrote (now (out .entry)) (now (out .exit)) (decimal n) at r ⌝ }
-{
-    let mut text = [0u8; 20];
-    let k = io::decimal(n as u64, &mut text);
-    put(out, at, &text[..k])
-}
-
-fn put_hex(out: &mut [u8], at: usize, b: u8) -> usize
-    requires { ⌜ at + length (digits 16 2 b) ≤ length (now out) ⌝ }
-    ensures { λ r. ⌜ Wrote (now (out .entry)) (now (out .exit)) (digits 16 2 b) at r ⌝ }
-{
-    let mut text = [0u8; 16];
-    let k = io::hex(wide(b), 2, &mut text);
-    put(out, at, &text[..k])
-}
-
-fn put_byte(out: &mut [u8], at: usize, b: u8) -> usize
-    requires { ⌜ at < length (now out) ⌝ }
-    ensures { λ r. ⌜ Wrote (now (out .entry)) (now (out .exit)) (b ∷ []) at r ⌝ }
-{
-    out[at] = b;
-    at + 1
-}
-
-// A number and the byte behind it.
+// A number and the byte behind it. Each function below that puts a text puts as much of it as there is room for, as those of `writing` do, and
+// answers the place behind it.
 fn put_field(out: &mut [u8], at: usize, n: usize, b: u8) -> usize
-    requires { ⌜ at + length (field n b) ≤ length (now out) ⌝ }
-    ensures { λ r. ⌜ Wrote (now (out .entry)) (now (out .exit)) (field n b) at r ⌝ }
+    ensures { λ r. ⌜ Put (now (out .entry)) (now (out .exit)) (field n b) at r ⌝ }
 {
     let mid = put_decimal(out, at, n);
     put_byte(out, mid, b)
 }
 
 fn put_previous(out: &mut [u8], at: usize, n: usize, p: usize) -> usize
-    requires { ⌜ at + length (orDash n p) ≤ length (now out) ⌝ }
-    ensures { λ r. ⌜ Wrote (now (out .entry)) (now (out .exit)) (orDash n p) at r ⌝ }
+    ensures { λ r. ⌜ Put (now (out .entry)) (now (out .exit)) (orDash n p) at r ⌝ }
 {
     if p == n {
         return put(out, at, b"- ");
@@ -82,8 +36,7 @@ fn put_previous(out: &mut [u8], at: usize, n: usize, p: usize) -> usize
 
 fn put_line(out: &mut [u8], at: usize, n: usize, i: usize, p: usize, q: usize) -> usize
     requires { ⌜ i ≤ q ⌝ }
-    requires { ⌜ at + length (lineText n i p q) ≤ length (now out) ⌝ }
-    ensures { λ r. ⌜ Wrote (now (out .entry)) (now (out .exit)) (lineText n i p q) at r ⌝ }
+    ensures { λ r. ⌜ Put (now (out .entry)) (now (out .exit)) (lineText n i p q) at r ⌝ }
 {
     let a = put_field(out, at, i, b' ');
     let b = put_previous(out, a, n, p);
@@ -91,20 +44,8 @@ fn put_line(out: &mut [u8], at: usize, n: usize, i: usize, p: usize, q: usize) -
     put_field(out, c, q - i, 10)
 }
 
-fn put_hexes(out: &mut [u8], at: usize, tree: &[u8]) -> usize
-    requires { ⌜ at + length (hexes (now tree) (length (now tree))) ≤ length (now out) ⌝ }
-    ensures { λ r. ⌜ Wrote (now (out .entry)) (now (out .exit)) (hexes (now (tree .entry)) (length (now (tree .entry)))) at r ⌝ }
-{
-    let mut end = at;
-    for k in 0..tree.len() {
-        end = put_hex(out, end, tree[k]);
-    }
-    end
-}
-
 fn put_tree(out: &mut [u8], at: usize, tree: &[u8]) -> usize
-    requires { ⌜ at + length (treeText (now tree)) ≤ length (now out) ⌝ }
-    ensures { λ r. ⌜ Wrote (now (out .entry)) (now (out .exit)) (treeText (now (tree .entry))) at r ⌝ }
+    ensures { λ r. ⌜ Put (now (out .entry)) (now (out .exit)) (treeText (now (tree .entry))) at r ⌝ }
 {
     if tree.len() == 0 {
         return put_byte(out, at, b'-');
@@ -114,16 +55,14 @@ fn put_tree(out: &mut [u8], at: usize, tree: &[u8]) -> usize
 
 // A name and a number.
 fn put_figure(out: &mut [u8], at: usize, name: &[u8], x: usize) -> usize
-    requires { ⌜ at + length (figure (now name) x) ≤ length (now out) ⌝ }
-    ensures { λ r. ⌜ Wrote (now (out .entry)) (now (out .exit)) (figure (now (name .entry)) x) at r ⌝ }
+    ensures { λ r. ⌜ Put (now (out .entry)) (now (out .exit)) (figure (now (name .entry)) x) at r ⌝ }
 {
     let mid = put(out, at, name);
     put_field(out, mid, x, b' ')
 }
 
 fn put_head(out: &mut [u8], n: usize, count: usize, tree: &[u8]) -> usize
-    requires { ⌜ length (headText n count (now tree)) ≤ length (now out) ⌝ }
-    ensures { λ r. ⌜ Wrote (now (out .entry)) (now (out .exit)) (headText n count (now (tree .entry))) 0 r ⌝ }
+    ensures { λ r. ⌜ Put (now (out .entry)) (now (out .exit)) (headText n count (now (tree .entry))) 0 r ⌝ }
 {
     let a = put_figure(out, 0, b"length ", n);
     let b = put_figure(out, a, b"comparisons ", count);
@@ -135,13 +74,12 @@ fn put_head(out: &mut [u8], n: usize, count: usize, tree: &[u8]) -> usize
 // The lines of all positions of the letters, from their tables.
 fn put_lines(out: &mut [u8], at: usize, letters: &[u8], previous: &[u32], next: &[u32]) -> usize
     requires { ⌜ Nearests (ranks (now letters)) (now previous) (now next) ⌝ }
-    requires { ⌜ at + length (lines (ranks (now letters)) (length (now letters))) ≤ length (now out) ⌝ }
-    ensures { λ r. ⌜ Wrote (now (out .entry)) (now (out .exit)) (lines (ranks (now (letters .entry))) (length (now (letters .entry)))) at r ⌝ }
+    ensures { λ r. ⌜ Put (now (out .entry)) (now (out .exit)) (lines (ranks (now (letters .entry))) (length (now (letters .entry)))) at r ⌝ }
 {
     let n = letters.len();
     let mut end = at;
     for k in 0..n {
-        end = put_line(out, end, n, k, entry(previous[k]), entry(next[k]));
+        end = put_line(out, end, n, k, previous[k] as usize, next[k] as usize);
     }
     end
 }
@@ -195,8 +133,7 @@ fn put_tables(
     tree: &mut [u8],
 ) -> usize
     requires { ⌜ Room (length (now letters)) (length (now previous)) (length (now next)) (length (now «previous_match»)) (length (now «next_match»)) (length (now tree)) ⌝ }
-    requires { ⌜ 180000 ≤ length (now out) ⌝ }
-    ensures { λ r. ⌜ Wrote (now (out .entry)) (now (out .exit)) (tablesText (ranks (now (letters .entry)))) 0 r ⌝ }
+    ensures { λ r. ⌜ Put (now (out .entry)) (now (out .exit)) (tablesText (ranks (now (letters .entry)))) 0 r ⌝ }
 {
     let comparisons = build_all(letters, previous, next, previous_match, next_match, tree);
     let at = put_head(out, letters.len(), comparisons, tree);
@@ -217,8 +154,7 @@ fn tree_bytes() -> [u8; 512]
 
 fn put_tables_of(out: &mut [u8], letters: &[u8]) -> usize
     requires { ⌜ length (now letters) ≤ 2048 ⌝ }
-    requires { ⌜ 180000 ≤ length (now out) ⌝ }
-    ensures { λ r. ⌜ Wrote (now (out .entry)) (now (out .exit)) (tablesText (ranks (now (letters .entry)))) 0 r ⌝ }
+    ensures { λ r. ⌜ Put (now (out .entry)) (now (out .exit)) (tablesText (ranks (now (letters .entry)))) 0 r ⌝ }
 {
     let n = letters.len();
     let t = tree_length(n);

@@ -1,12 +1,12 @@
--- Writes one behind the other.
+-- Writes one behind the other, and puts, which write as much as there is room for.
 use mathlib.Core.Path.{_≡_, refl, sym, ap, _∙_}
 use mathlib.Core.List.{List, [], _∷_, _++_, append-assoc, append-nil}
-use Prim.Native.Nat.{ℕ, zero, suc, _+_, _≤_, _<_}
+use Prim.Native.Nat.{ℕ, zero, suc, _+_, _-_, _≤_, _<_}
 use native.Mathlib.Numerals.{add-one}
 use native.Mathlib.Omega.{arith}
-use lib.ListN.{length, take, drop, set, length-append, take-append-drop}
-use lib.Seq.{take-at, drop-at, drop-drop, drop-set-lt, take-length, length-take-le, take-suc-set}
-use Rattle.writing.specs.Writing.{Wrote}
+use lib.ListN.{length, take, drop, set, length-append, length-take, length-drop, take-append-drop}
+use lib.Seq.{take-at, drop-at, drop-drop, drop-set-lt, take-all, take-nil, take-length, length-take-le, take-suc-set}
+use Rattle.writing.specs.Writing.{Wrote, Put}
 
 -- what is the same from y on is the same further on
 later : (b a : List ℕ) (y k z : ℕ) → z ≡ y + k → drop y b ≡ drop y a → drop z b ≡ drop z a
@@ -47,3 +47,35 @@ wrote-part a s e x k n h f g w = record { size = omega arith; text = rw shape (t
 
 pub wrote-byte : (a : List ℕ) (x b : ℕ) → x < length a → Wrote a (set a x b) (b ∷ []) x (x + 1)
 wrote-byte a x b h = record { size = refl; text = rw add-one (take-suc-set a x b h); rest = rw add-one (drop-set-lt (suc x) a x b (omega arith)) }
+
+-- where there is no room nothing is put
+pub put-past : (a t : List ℕ) (x : ℕ) → length a ≤ x → Put a a t x x
+put-past a t x h = let z : length a - x ≡ 0 = omega arith in record { wrote = rw z (wrote-none a x) }
+
+pub put-none : (a : List ℕ) (x : ℕ) → Put a a [] x x
+put-none a x = record { wrote = rw take-nil (wrote-none a x) }
+
+pub put-byte : (a : List ℕ) (x b : ℕ) → x < length a → Put a (set a x b) (b ∷ []) x (x + 1)
+put-byte a x b h = record { wrote = rw (take-all (length a - x) (b ∷ []) (omega arith)) (wrote-byte a x b h) }
+
+-- where there is room for all of the text, all of it is put
+pub put-fits : {a b t : List ℕ} {x z : ℕ} → Put a b t x z → x + length t ≤ length a → Wrote a b t x z
+put-fits {a} {b} {t} {x} {z} p h = rw (take-all (length a - x) t (omega arith)) at (p .wrote)
+
+-- the buffer stays as long as it is
+pub put-length : {a b t : List ℕ} {x z : ℕ} → Put a b t x z → length b ≡ length a
+put-length {a} {b} {t} {x} {z} p =
+    let w = p .wrote in
+    omega (arith, w .size, simp (length-take, length-append) at (ap length (w .text)), simp length-drop at (ap length (w .rest)), length-take (length a - x) t)
+
+-- the first m bytes of two texts, one behind the other
+take-append : (m : ℕ) (s t : List ℕ) → take m (s ++ t) ≡ take m s ++ take (m - length s) t
+take-append zero s t = let z : zero - length s ≡ zero = omega arith in rw z
+take-append (suc m) [] t = let z : suc m - zero ≡ suc m = omega arith in rw z
+take-append (suc m) (v ∷ s) t = let z : suc m - suc (length s) ≡ m - length s = omega arith in rw (z, take-append m s t)
+
+-- a put behind a put is one put of both texts
+pub put-then : {a b c s t : List ℕ} {x y z : ℕ} → Put a b s x y → Put b c t y z → Put a c (s ++ t) x z
+put-then {a} {b} {c} {s} {t} {x} {y} {z} p q =
+    let room : length b - y ≡ length a - x - length s = omega (arith, put-length p, p .wrote .size, length-take (length a - x) s) in
+    record { wrote = rw (take-append (length a - x) s t, ← room) (wrote-then (p .wrote) (q .wrote)) }

@@ -39,17 +39,15 @@ module _ (c : tie.After-put-tables-arg) where
 
 put-tables-requires : tie.Need-put-tables-requires
 put-tables-requires c κs =
-    let p = c .before .before .before .before .before in (
-      record {
-        few = start p .pre .0;
-        previous = previous p;
-        next = next p;
-        previousMatch = previous-match p;
-        nextMatch = next-match p;
-        tree = tree p ∙ made p .before .tree-length .ensures;
-      },
-      start p .pre .1,
-    )
+    let p = c .before .before .before .before .before in
+    record {
+      few = start p .pre;
+      previous = previous p;
+      next = next p;
+      previousMatch = previous-match p;
+      nextMatch = next-match p;
+      tree = tree p ∙ made p .before .tree-length .ensures;
+    }
 
 pub put-tables-of-spec : {M : Type 1} → statement M
 put-tables-of-spec =

@@ -8,7 +8,7 @@ use lib.ListN.{length, length-append}
 use borrow.Author.Tests.{lt-ltb, le-ltb}
 use Rattle.suffix.proofs.Cases.{Tri, lt, eq, gt, tri}
 use Rattle.io.specs.Digits.{digits, glyph, Fewest}
-use Rattle.tables_text.specs.Text.{places, decimal}
+use Rattle.writing.specs.Text.{places, decimal}
 
 few-more : (f n : ℕ) → 10 ≤ n → places (suc f) n ≡ suc (places f (n / 10))
 unfolding places

@@ -1,0 +1,49 @@
+-- `writing::put_hexes` meets its contract. The loop's invariant: the first k bytes are put, and end is behind them.
+use mathlib.Core.Path.{_≡_, refl}
+use Prim.Native.Nat.{_-_, _≤_}
+use native.Mathlib.Omega.{arith}
+use lib.ListN.{length}
+use Rattle.writing.specs.Writing.{Put}
+use Rattle.writing.specs.Text.{hexes}
+use Rattle.writing.proofs.Writes.{put-none, put-length, put-then}
+use Rattle.writing.proofs.Hexes.{hexes-more}
+use Rattle.writing.proofs.put_hexes.Statement.{statement}
+use Rattle.writing.proofs.put_hexes.Tie as tie
+
+abbrev Inv-loop : tie.InvT-loop
+Inv-loop out₀ at s end₀ k₀ k-end out end k = (k ≤ length s) × (k-end ≡ length s) × Put out₀ out (hexes s k) at end
+
+abbrev μ-loop : tie.MeasureT-loop
+μ-loop out₀ at s end₀ k₀ k-end out end k = length s - k
+
+loop-holds : tie.Need-loop-holds Inv-loop μ-loop
+unfolding hexes
+loop-holds c = (omega arith, refl, put-none (c .before .before .args .out .now) (c .before .before .args .at))
+
+shared-slice-read-put-hex : tie.Need-shared-slice-read-put-hex Inv-loop μ-loop
+shared-slice-read-put-hex c = omega arith
+
+add-k : tie.Need-add-k Inv-loop μ-loop
+add-k c = omega arith
+
+loop-less : tie.Need-loop-less Inv-loop μ-loop
+loop-less c = omega arith
+
+loop-again : tie.Need-loop-again Inv-loop μ-loop
+loop-again c =
+    let s = c .before .before .before .before .before .before .before .before .before .args .s .now in
+    let l = c .before .before .before .before .before .before .loop in
+    (omega arith, refl, rw (hexes-more s (l .k)) (put-then (l .inv .2) (c .before .before .put-hex .ensures)))
+
+same-length : tie.Need-same-length Inv-loop μ-loop
+same-length c = put-length (c .before .loop .inv .2)
+
+returns : tie.Need-returns Inv-loop μ-loop
+returns c =
+    let e : c .before .loop .k ≡ length (c .before .before .before .before .args .s .now) = omega arith in
+    rw e at (c .before .loop .inv .2)
+
+pub put-hexes-spec : {M : Type 1} → statement M
+put-hexes-spec =
+    tie.close
+    (tie.spec Inv-loop μ-loop loop-holds shared-slice-read-put-hex (λ c κs. tt) add-k loop-less loop-again same-length returns)
