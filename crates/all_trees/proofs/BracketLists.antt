@@ -2,7 +2,8 @@
 use mathlib.Core.Path.{_≡_, refl, sym, ap, _∙_}
 use mathlib.Core.Bool.{Bool, true, false}
 use mathlib.Core.List.{List, [], _∷_, _++_, map}
-use Prim.Native.Nat.{ℕ, zero, suc, _+_, _-_, _*_, _≤_, _<_}
+use Prim.Native.Nat.{ℕ, zero, suc, _+_, _-_, _*_, _^_, _≤_, _<_}
+use native.Mathlib.Nat.{two-pow-succ}
 use native.Mathlib.Omega.{arith}
 use lib.ListN.{length, getD, drop, length-append, length-map, List·getD-append}
 use lib.Seq.{getD-append-add, drop-append-le, drop-append-add}
@@ -14,9 +15,9 @@ use Rattle.all_trees.proofs.Lists.{chosen-append, chosen-none, chosen-a
 abbrev pub both : List (List Bool) → List (List Bool) → List (List Bool)
 both A B = map (true ∷_) A ++ map (false ∷_) B
 
-pub chosen-allBrackets : (g : List Bool → Bool) (m : ℕ) → chosen g (allBrackets (suc m)) ≡ both (chosen (λ w. g (true ∷ w)) (allBrackets m)) (chosen (λ w. g (false ∷ w)) (allBrackets m))
+pub chosen-brackets : (g : List Bool → Bool) (m : ℕ) → chosen g (allBrackets (suc m)) ≡ both (chosen (λ w. g (true ∷ w)) (allBrackets m)) (chosen (λ w. g (false ∷ w)) (allBrackets m))
 unfolding allBrackets
-chosen-allBrackets g m =
+chosen-brackets g m =
     chosen-append g (map (true ∷_) (allBrackets m)) (map (false ∷_) (allBrackets m))
     ∙ rw (chosen-map g (true ∷_) (allBrackets m), chosen-map g (false ∷_) (allBrackets m))
 
@@ -45,6 +46,11 @@ part A k = go (tri k (length A))
     go (lt h) = in-first h
     go (eq h) = in-second 0 (omega arith)
     go (gt h) = in-second (k - length A) (omega arith)
+
+pub all-count : (m : ℕ) → length (allBrackets m) ≡ 2 ^ m
+unfolding allBrackets
+all-count zero = refl
+all-count (suc m) = both-length (allBrackets m) (allBrackets m) ∙ omega (arith, all-count m, two-pow-succ m)
 
 -- ---- behind a list of brackets
 
@@ -82,46 +88,46 @@ both-rests A B a b k h = go (part A k)
         ∙ ap (map (false ∷_)) (b j w)
         ∙ sym (ap (λ i. drop i (both A B)) y ∙ drop-append-add (map (true ∷_) A) (map (false ∷_) B) (suc j) ∙ map-drop (false ∷_) B (suc j))
 
-pub allBrackets-rest : (m : ℕ) (g : List Bool → Bool) (k : ℕ) → k < length (chosen g (allBrackets m)) → chosen (before (getD (chosen g (allBrackets m)) k [])) (chosen g (allBrackets m)) ≡ drop (suc k) (chosen g (allBrackets m))
+pub all-rest : (m : ℕ) (g : List Bool → Bool) (k : ℕ) → k < length (chosen g (allBrackets m)) → chosen (before (getD (chosen g (allBrackets m)) k [])) (chosen g (allBrackets m)) ≡ drop (suc k) (chosen g (allBrackets m))
 unfolding allBrackets chosen before Rests
-allBrackets-rest zero g k h = go (test (g [])) k h
+all-rest zero g k h = go (test (g [])) k h
   where
     go : Test (g []) → (k : ℕ) → k < length (chosen g ([] ∷ [])) → chosen (before (getD (chosen g ([] ∷ [])) k [])) (chosen g ([] ∷ [])) ≡ drop (suc k) (chosen g ([] ∷ []))
     go (holds e) zero w = rw (e, chosen)
     go (holds e) (suc j) w = absurd (let z : length (chosen g ([] ∷ [])) ≡ 1 = rw (e, chosen) in omega arith)
     go (fails e) j w = absurd (let z : length (chosen g ([] ∷ [])) ≡ 0 = rw (e, chosen) in omega arith)
-allBrackets-rest (suc m) g k h =
-    rw (chosen-allBrackets g m)
-    (both-rests (chosen (λ w. g (true ∷ w)) (allBrackets m)) (chosen (λ w. g (false ∷ w)) (allBrackets m)) (allBrackets-rest m (λ w. g (true ∷ w))) (allBrackets-rest m (λ w. g (false ∷ w))) k
-    (rw (chosen-allBrackets g m) at h))
+all-rest (suc m) g k h =
+    rw (chosen-brackets g m)
+    (both-rests (chosen (λ w. g (true ∷ w)) (allBrackets m)) (chosen (λ w. g (false ∷ w)) (allBrackets m)) (all-rest m (λ w. g (true ∷ w))) (all-rest m (λ w. g (false ∷ w))) k
+    (rw (chosen-brackets g m) at h))
 
 -- ---- each list of m brackets is among the allBrackets of m
 
-pub allBrackets-each : (m : ℕ) (g : List Bool → Bool) (w : List Bool) → length w ≡ m → g w ≡ true → (k : ℕ) × (k < length (chosen g (allBrackets m))) × (getD (chosen g (allBrackets m)) k [] ≡ w)
+pub all-each : (m : ℕ) (g : List Bool → Bool) (w : List Bool) → length w ≡ m → g w ≡ true → (k : ℕ) × (k < length (chosen g (allBrackets m))) × (getD (chosen g (allBrackets m)) k [] ≡ w)
 unfolding allBrackets chosen
-allBrackets-each zero g [] e h = rw (h, chosen) (0, omega arith, refl)
-allBrackets-each zero g (b ∷ w) e h = absurd (omega arith)
-allBrackets-each (suc m) g [] e h = absurd (omega arith)
-allBrackets-each (suc m) g (true ∷ w) e h =
+all-each zero g [] e h = rw (h, chosen) (0, omega arith, refl)
+all-each zero g (b ∷ w) e h = absurd (omega arith)
+all-each (suc m) g [] e h = absurd (omega arith)
+all-each (suc m) g (true ∷ w) e h =
     let A = chosen (λ w. g (true ∷ w)) (allBrackets m) in
     let B = chosen (λ w. g (false ∷ w)) (allBrackets m) in
-    let r = allBrackets-each m (λ w. g (true ∷ w)) w (omega arith) h in
-    rw (chosen-allBrackets g m) (r .0, omega (arith, r .1, both-length A B), both-first A B (r .0) (r .1) ∙ ap (true ∷_) (r .2))
-allBrackets-each (suc m) g (false ∷ w) e h =
+    let r = all-each m (λ w. g (true ∷ w)) w (omega arith) h in
+    rw (chosen-brackets g m) (r .0, omega (arith, r .1, both-length A B), both-first A B (r .0) (r .1) ∙ ap (true ∷_) (r .2))
+all-each (suc m) g (false ∷ w) e h =
     let A = chosen (λ w. g (true ∷ w)) (allBrackets m) in
     let B = chosen (λ w. g (false ∷ w)) (allBrackets m) in
-    let r = allBrackets-each m (λ w. g (false ∷ w)) w (omega arith) h in
-    rw (chosen-allBrackets g m) (length A + r .0, omega (arith, r .1, both-length A B), both-second A B (r .0) (r .1) ∙ ap (false ∷_) (r .2))
+    let r = all-each m (λ w. g (false ∷ w)) w (omega arith) h in
+    rw (chosen-brackets g m) (length A + r .0, omega (arith, r .1, both-length A B), both-second A B (r .0) (r .1) ∙ ap (false ∷_) (r .2))
 
-pub allBrackets-length : (m : ℕ) (g : List Bool → Bool) (k : ℕ) → k < length (chosen g (allBrackets m)) → length (getD (chosen g (allBrackets m)) k []) ≡ m
+pub all-length : (m : ℕ) (g : List Bool → Bool) (k : ℕ) → k < length (chosen g (allBrackets m)) → length (getD (chosen g (allBrackets m)) k []) ≡ m
 unfolding allBrackets chosen
-allBrackets-length zero g k h = go (test (g [])) k h
+all-length zero g k h = go (test (g [])) k h
   where
     go : Test (g []) → (k : ℕ) → k < length (chosen g ([] ∷ [])) → length (getD (chosen g ([] ∷ [])) k []) ≡ 0
     go (holds e) zero w = rw (e, chosen)
     go (holds e) (suc j) w = absurd (let z : length (chosen g ([] ∷ [])) ≡ 1 = rw (e, chosen) in omega arith)
     go (fails e) j w = absurd (let z : length (chosen g ([] ∷ [])) ≡ 0 = rw (e, chosen) in omega arith)
-allBrackets-length (suc m) g k h = go (part A k) (λ j w. allBrackets-length m (λ w. g (true ∷ w)) j w) (λ j w. allBrackets-length m (λ w. g (false ∷ w)) j w)
+all-length (suc m) g k h = go (part A k) (λ j w. all-length m (λ w. g (true ∷ w)) j w) (λ j w. all-length m (λ w. g (false ∷ w)) j w)
   where
     A : List (List Bool)
     A = chosen (λ w. g (true ∷ w)) (allBrackets m)
@@ -130,16 +136,16 @@ allBrackets-length (suc m) g k h = go (part A k) (λ j w. allBrackets-length m (
     B = chosen (λ w. g (false ∷ w)) (allBrackets m)
 
     go : Part A k → ((j : ℕ) → j < length A → length (getD A j []) ≡ m) → ((j : ℕ) → j < length B → length (getD B j []) ≡ m) → length (getD (chosen g (allBrackets (suc m))) k []) ≡ suc m
-    go (in-first w) a b = rw (chosen-allBrackets g m) (ap length (both-first A B k w) ∙ ap suc (a k w))
+    go (in-first w) a b = rw (chosen-brackets g m) (ap length (both-first A B k w) ∙ ap suc (a k w))
     go (in-second j z) a b =
-        let w : j < length B = omega (arith, both-length A B, ap length (chosen-allBrackets g m)) in
-        rw (chosen-allBrackets g m) (ap length (ap (λ i. getD (both A B) i []) z ∙ both-second A B j w) ∙ ap suc (b j w))
+        let w : j < length B = omega (arith, both-length A B, ap length (chosen-brackets g m)) in
+        rw (chosen-brackets g m) (ap length (ap (λ i. getD (both A B) i []) z ∙ both-second A B j w) ∙ ap suc (b j w))
 
 -- two choices that agree on lists of m brackets
-pub allBrackets-same : (m : ℕ) (g h : List Bool → Bool) → ((w : List Bool) → length w ≡ m → g w ≡ h w) → chosen g (allBrackets m) ≡ chosen h (allBrackets m)
+pub all-same : (m : ℕ) (g h : List Bool → Bool) → ((w : List Bool) → length w ≡ m → g w ≡ h w) → chosen g (allBrackets m) ≡ chosen h (allBrackets m)
 unfolding allBrackets chosen
-allBrackets-same zero g h q = rw (q [] refl)
-allBrackets-same (suc m) g h q =
-    chosen-allBrackets g m
-    ∙ rw (allBrackets-same m (λ w. g (true ∷ w)) (λ w. h (true ∷ w)) (λ w e. q (true ∷ w) (omega arith)), allBrackets-same m (λ w. g (false ∷ w)) (λ w. h (false ∷ w)) (λ w e. q (false ∷ w) (omega arith)))
-    (sym (chosen-allBrackets h m))
+all-same zero g h q = rw (q [] refl)
+all-same (suc m) g h q =
+    chosen-brackets g m
+    ∙ rw (all-same m (λ w. g (true ∷ w)) (λ w. h (true ∷ w)) (λ w e. q (true ∷ w) (omega arith)), all-same m (λ w. g (false ∷ w)) (λ w. h (false ∷ w)) (λ w e. q (false ∷ w) (omega arith)))
+    (sym (chosen-brackets h m))

@@ -11,7 +11,7 @@ use Rattle.shape.proofs.Heights.{opened-none, opens, shuts}
 use Rattle.shape.proofs.Reading.{Balanced}
 use Rattle.all_trees.specs.Trees.{chosen, allBrackets, before, bracketsFrom}
 use Rattle.all_trees.proofs.Lists.{chosen-none}
-use Rattle.all_trees.proofs.BracketLists.{both, chosen-allBrackets, behind-opening, behind-closing, allBrackets-same}
+use Rattle.all_trees.proofs.BracketLists.{both, chosen-brackets, behind-opening, behind-closing, all-same}
 
 -- the brackets close all, where d are open before them
 abbrev pub closes : ℕ → List Bool → Bool
@@ -37,9 +37,9 @@ fallen (suc d) m = kept d m
 pub kept-more : (d m : ℕ) → kept d (suc m) ≡ both (kept (suc d) m) (fallen d m)
 unfolding kept
 kept-more zero m =
-    chosen-allBrackets (closes zero) m
+    chosen-brackets (closes zero) m
     ∙ ap (both (kept 1 m)) (chosen-none (λ w. closes zero (false ∷ w)) (allBrackets m) (λ w. refl))
-kept-more (suc d) m = chosen-allBrackets (closes (suc d)) m
+kept-more (suc d) m = chosen-brackets (closes (suc d)) m
 
 pub kept-none : (m d : ℕ) → m < d → kept d m ≡ []
 unfolding kept allBrackets chosen

@@ -2,7 +2,7 @@
 use mathlib.Core.Path.{_≡_, refl, sym, ap, _∙_}
 use mathlib.Core.Bool.{Bool, true, false, true≢false}
 use mathlib.Core.List.{List, [], _∷_, map}
-use Prim.Native.Nat.{ℕ, zero, suc, _+_, _-_, _*_, _≤_, _<_}
+use Prim.Native.Nat.{ℕ, zero, suc, _+_, _-_, _*_, _^_, _≤_, _<_}
 use native.Mathlib.Nat.{zero-add, eq-of-mul-eq-mul-right}
 use native.Mathlib.Omega.{arith}
 use lib.Dec.{eqb}
@@ -13,8 +13,8 @@ use Rattle.suffix.proofs.Cases.{Tri, lt, eq, gt, tri}
 use Rattle.refusal.specs.Conditions.{flawNumber}
 use Rattle.all_trees.specs.Trees.{chosen, bracketsOf, treeOf, allBrackets, before, treesOf, treesAfter, firstTree, nextTree, isLast}
 use Rattle.all_trees.specs.Claims.{IsBalanced, HoldsEach, TreesAreAll, AfterIsBehind, LeastAbove, NextIsTheLeastAbove, factorial, CountIsCatalans, TwelveHave}
-use Rattle.all_trees.proofs.Lists.{chosen-holds, map-entry, map-drop}
-use Rattle.all_trees.proofs.BracketLists.{allBrackets-rest, allBrackets-each}
+use Rattle.all_trees.proofs.Lists.{chosen-few, chosen-holds, map-entry, map-drop}
+use Rattle.all_trees.proofs.BracketLists.{all-count, all-rest, all-each}
 use Rattle.all_trees.proofs.Closing.{closes, kept, peak, Begins, first-kept}
 use Rattle.all_trees.proofs.Counting.{counted}
 use Rattle.all_trees.proofs.Trees.{of-length, tree-size, tree-bytes, brackets-back, tree-closes, bytes-back, trees-are, kept-length, after-are}
@@ -53,7 +53,7 @@ module _ (n : ℕ) where
       let b : bracketsOf n (getD l k []) ≡ getD K k [] = ap (bracketsOf n) (entry k h) ∙ brackets-back n (getD K k []) (kept-length n k w) in
       after-are n (getD l k [])
       ∙ ap (λ v. map (treeOf n) (chosen (before v) K)) b
-      ∙ ap (map (treeOf n)) (allBrackets-rest (2 * n) (closes 0) k w)
+      ∙ ap (map (treeOf n)) (all-rest (2 * n) (closes 0) k w)
       ∙ sym (ap (drop (suc k)) (trees-are n) ∙ map-drop (treeOf n) K (suc k))
 
   in-order : (j k : ℕ) → j < k → k < length l → before (bracketsOf n (getD l j [])) (bracketsOf n (getD l k [])) ≡ true
@@ -82,7 +82,7 @@ module _ (n : ℕ) where
               size = ap length (entry k h) ∙ tree-size n (getD K k []);
               balanced = eqb-true (flawNumber n (getD l k [])) 0 (chosen-holds (λ t. eqb (flawNumber n t) 0) [] (map (treeOf n) (allBrackets (2 * n))) k h);
             };
-        each = λ t T. found t T (allBrackets-each (2 * n) (closes 0) (bracketsOf n t) (of-length n t) (tree-closes n T));
+        each = λ t T. found t T (all-each (2 * n) (closes 0) (bracketsOf n t) (of-length n t) (tree-closes n T));
         order = in-order;
         once = λ j k h w e. go j k h w e (tri j k);
       }
@@ -107,6 +107,17 @@ afterIsBehind = next
 -- there is a tree
 pub some-tree : (n : ℕ) → 0 < length (treesOf n)
 some-tree n = omega (arith, trees-length n, ap length (first-is n .is))
+
+-- no more than there are lists of brackets
+pub trees-most : (n : ℕ) → length (treesOf n) ≤ 2 ^ (2 * n)
+unfolding treesOf
+trees-most n =
+    omega (
+      arith,
+      chosen-few (λ t. eqb (flawNumber n t) 0) (map (treeOf n) (allBrackets (2 * n))),
+      length-map (allBrackets (2 * n)) (treeOf n),
+      all-count (2 * n),
+    )
 
 -- what stands behind a tree in the list
 module _ (n k : ℕ) (h : k < length (treesOf n)) where

@@ -36,6 +36,15 @@ module _ {A : Type 0} (g : A → Bool) where
   chosen-all [] h = refl
   chosen-all (a ∷ l) h = chosen-yes a l (h a) ∙ ap (a ∷_) (chosen-all l h)
 
+  pub chosen-few : (l : List A) → length (chosen g l) ≤ length l
+  unfolding chosen
+  chosen-few [] = omega arith
+  chosen-few (a ∷ l) = go (test (g a)) (chosen-few l)
+    where
+      go : Test (g a) → length (chosen g l) ≤ length l → length (chosen g (a ∷ l)) ≤ suc (length l)
+      go (holds e) ih = omega (arith, ap length (chosen-yes a l e))
+      go (fails e) ih = omega (arith, ap length (chosen-no a l e))
+
   -- what is chosen
   pub chosen-holds : (d : A) (l : List A) (k : ℕ) → k < length (chosen g l) → g (getD (chosen g l) k d) ≡ true
   unfolding chosen

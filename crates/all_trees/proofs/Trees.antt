@@ -21,7 +21,7 @@ use Rattle.shape.proofs.Reading.{Balanced}
 use Rattle.all_trees.specs.Trees.{chosen, bracketsFrom, bracketsOf, treeOf, allBrackets, before, treesOf, treesAfter}
 use Rattle.all_trees.specs.Claims.{IsBalanced}
 use Rattle.all_trees.proofs.Lists.{chosen-map, chosen-same}
-use Rattle.all_trees.proofs.BracketLists.{allBrackets-same, allBrackets-length}
+use Rattle.all_trees.proofs.BracketLists.{all-same, all-length}
 use Rattle.all_trees.proofs.Closing.{closes, kept, balanced-closes, closes-balanced}
 
 pub brackets-length : (g : ℕ → Bool) (a m : ℕ) → length (bracketsFrom g a m) ≡ m
@@ -114,11 +114,11 @@ module _ (n : ℕ) where
   unfolding treesOf kept
   trees-are =
       chosen-map (λ t. eqb (flawNumber n t) 0) (treeOf n) (allBrackets (2 * n))
-      ∙ ap (map (treeOf n)) (allBrackets-same (2 * n) (λ w. eqb (flawNumber n (treeOf n w)) 0) (closes 0) (λ w e. balanced-tree w e))
+      ∙ ap (map (treeOf n)) (all-same (2 * n) (λ w. eqb (flawNumber n (treeOf n w)) 0) (closes 0) (λ w e. balanced-tree w e))
 
   pub kept-length : (k : ℕ) → k < length (kept 0 (2 * n)) → length (getD (kept 0 (2 * n)) k []) ≡ 2 * n
   unfolding kept
-  kept-length k h = allBrackets-length (2 * n) (closes 0) k h
+  kept-length k h = all-length (2 * n) (closes 0) k h
 
   pub after-are : (t : List ℕ) → treesAfter n t ≡ map (treeOf n) (chosen (before (bracketsOf n t)) (kept 0 (2 * n)))
   unfolding treesAfter

@@ -9,7 +9,7 @@ use lib.Dec.{eqb, ltb}
 use lib.ListN.{length}
 use borrow.Author.Tests.{eq-eqb, ne-eqb, ltb-false}
 use Rattle.suffix.specs.Tree.{treeLength}
-use Rattle.suffix.proofs.Cases.{Same, same, other, same?}
+use Rattle.suffix.proofs.Cases.{Same, same, other, same?, Test, holds, fails, test}
 use Rattle.refusal.specs.Numbers.{firstOf}
 use Rattle.refusal.specs.Conditions.{flawNumber, treeRefusal}
 use Rattle.refusal.proofs.Numbers.{neither, first-only, unless-taken, unless-refused}
@@ -50,6 +50,21 @@ module _ (n : ℕ) (t : List ℕ) where
       go : Same (length t) (treeLength n) → nextRefusal n t ≡ treeRefusal n t
       go (same z) = rw (e, eq-eqb (length t) (treeLength n) z) (first-only (flawNumber n t) ∙ sym (tree-flaw n t small z))
       go (other z) = rw (e, ne-eqb (length t) (treeLength n) z) (sym (tree-3 n t small z))
+
+-- where nothing is refused, the size is one of 1 to 12
+pub first-inside : (n m : ℕ) → firstRefusal n m ≡ 0 → sizeOutside n ≡ false
+first-inside n m e = go (test (sizeOutside n))
+  where
+    go : Test (sizeOutside n) → sizeOutside n ≡ false
+    go (holds z) = absurd (omega (arith, first-14 n m z))
+    go (fails z) = z
+
+pub next-inside : (n : ℕ) (t : List ℕ) → nextRefusal n t ≡ 0 → sizeOutside n ≡ false
+next-inside n t e = go (test (sizeOutside n))
+  where
+    go : Test (sizeOutside n) → sizeOutside n ≡ false
+    go (holds z) = absurd (omega (arith, next-14 n t z))
+    go (fails z) = z
 
 -- ---- what is left
 

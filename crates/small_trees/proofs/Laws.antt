@@ -14,6 +14,12 @@ use Rattle.small_trees.specs.Answers.{sizeOutside, firstRefusal, nextRef
 use Rattle.small_trees.specs.Claims.{reached, GoesOverAll, GoingOnReachesEach}
 use Rattle.small_trees.proofs.Answering.{inside, first-0, next-tree, first-written, next-answered, next-written}
 
+pub listed-taken : (n k : ℕ) → sizeOutside n ≡ false → k < length (treesOf n) → nextRefusal n (getD (treesOf n) k []) ≡ 0
+listed-taken n k size h =
+    let t = getD (treesOf n) k [] in
+    let T = treesAreAll n .trees k h in
+    next-tree n t size ∙ tree-flaw n t (omega (arith, inside n size)) (T .size) ∙ T .balanced
+
 module _ (n : ℕ) (buffer : List ℕ) (size : sizeOutside n ≡ false) (long : length buffer ≡ treeLength n) where
   abbrev tree : ℕ → List ℕ
   tree k = getD (treesOf n) k []
@@ -22,9 +28,7 @@ module _ (n : ℕ) (buffer : List ℕ) (size : sizeOutside n ≡ false) (long : 
   first-taken = first-0 n (length buffer) size long
 
   taken : (k : ℕ) → k < length (treesOf n) → nextRefusal n (tree k) ≡ 0
-  taken k h =
-      let T = treesAreAll n .trees k h in
-      next-tree n (tree k) size ∙ tree-flaw n (tree k) (omega (arith, inside n size)) (T .size) ∙ T .balanced
+  taken k h = listed-taken n k size h
 
   reaches : (k : ℕ) → k < length (treesOf n) → reached n buffer k ≡ tree k
   unfolding reached firstTree

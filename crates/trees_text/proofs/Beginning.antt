@@ -1,0 +1,53 @@
+-- The first line.
+use mathlib.Core.Path.{_≡_, refl, sym, ap, _∙_}
+use mathlib.Core.Logic.{_≢_}
+use mathlib.Core.Bool.{true}
+use mathlib.Core.List.{List}
+use Prim.Native.Nat.{ℕ}
+use native.Mathlib.Omega.{arith}
+use lib.ListN.{length}
+use Rattle.refusal.proofs.Numbers.{unless-taken, unless-refused}
+use Rattle.writing.specs.Writing.{Put}
+use Rattle.all_trees.specs.Trees.{firstTree, nextTree, isLast}
+use Rattle.all_trees.proofs.Laws.{some-tree}
+use Rattle.small_trees.specs.Answers.{firstRefusal, nextRefusal, FirstGiven}
+use Rattle.small_trees.proofs.Answering.{first-inside, first-left, first-written}
+use Rattle.small_trees.proofs.Laws.{listed-taken}
+use Rattle.trees_text.specs.Text.{lineText, noSizeText}
+use Rattle.trees_text.specs.Lines.{LineMade, Begun}
+use Rattle.trees_text.specs.declared.Line.{Line}
+
+module _ {n : ℕ} {buffer tree : List ℕ} {number : ℕ} (F : FirstGiven n buffer tree number) where
+  abbrev r : ℕ
+  r = firstRefusal n (length buffer)
+
+  -- the first tree is given
+  module _ (e : number ≡ 0) where
+    taken : r ≡ 0
+    taken = sym (F .answers) ∙ e
+
+    given : tree ≡ firstTree n
+    given = F .leaves ∙ first-written n buffer taken
+
+    pub first-taken : nextRefusal n tree ≡ 0
+    unfolding firstTree
+    first-taken = rw given (listed-taken n 0 (first-inside n (length buffer) taken) (some-tree n))
+
+    pub begun-first : {m : ℕ} {after text textAfter : List ℕ} {line : Line} → m ≡ n → LineMade m tree after text textAfter line → Begun n buffer after text textAfter line
+    begun-first z m =
+        let L = rw (z, given) at m in
+        record {
+          text = rw (unless-taken r (lineText n (firstTree n)) noSizeText taken) (L .text);
+          stop = L .stop ∙ sym (unless-taken r (isLast n (firstTree n)) true taken);
+          leaves = L .leaves ∙ sym (unless-taken r (nextTree n (firstTree n)) buffer taken);
+        }
+
+  -- it is refused
+  pub begun-none : {text textAfter : List ℕ} {size : ℕ} → number ≢ 0 → Put text textAfter noSizeText 0 size → Begun n buffer tree text textAfter (record { length = size; last = true })
+  begun-none h w =
+      let f : r ≢ 0 = λ z. h (F .answers ∙ z) in
+      record {
+        text = rw (unless-refused r (lineText n (firstTree n)) noSizeText f) w;
+        stop = sym (unless-refused r (isLast n (firstTree n)) true f);
+        leaves = F .leaves ∙ sym (first-left n buffer f) ∙ sym (unless-refused r (nextTree n (firstTree n)) buffer f);
+      }

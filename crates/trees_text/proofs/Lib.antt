@@ -1,0 +1,6 @@
+pub mod Input
+pub mod Lines
+pub mod Beginning
+pub mod Running
+pub mod Laws
+pub mod Examples
