@@ -12,12 +12,12 @@ use Rattle.writing.specs.Text.{places, decimal}
 
 few-more : (f n : ℕ) → 10 ≤ n → places (suc f) n ≡ suc (places f (n / 10))
 unfolding places
-few-more f n h = rw (le-ltb n 10 h)
+few-more f n h = rw le-ltb
 
 few-one : (f n : ℕ) → n < 10 → places f n ≡ 1
 unfolding places
 few-one zero n h = refl
-few-one (suc f) n h = rw (lt-ltb n 10 h)
+few-one (suc f) n h = rw lt-ltb
 
 -- the fewest digits are the places
 fewest : (f n k : ℕ) → k ≤ suc f → Fewest 10 1 n k → k ≡ places f n
@@ -44,9 +44,9 @@ short n k h w = go (tri k 20)
         let up : 10 ^ 20 ≤ 10 ^ (k - 1) = pow-le-pow-right {n = 10} (omega arith) {i = 20} {j = k - 1} (omega arith) in
         absurd (omega (arith, w .2 (omega arith)))
 
-pub decimal-is : (n k : ℕ) → n < 2 ^ 64 → Fewest 10 1 n k → digits 10 k n ≡ decimal n
+pub decimal-is : (n m k : ℕ) → Fewest 10 1 m k → m ≡ n → n < 2 ^ 64 → digits 10 k m ≡ decimal n
 unfolding decimal
-decimal-is n k h w = ap (λ (j : ℕ). digits 10 j n) (fewest 19 n k (short n k h w) w)
+decimal-is n m k w e h = rw e (ap (λ (j : ℕ). digits 10 j n) (fewest 19 n k (short n k h (rw e at w)) (rw e at w)))
 
 -- a byte has two digits
 pub two : (b k : ℕ) → b < 256 → Fewest 16 2 b k → k ≡ 2

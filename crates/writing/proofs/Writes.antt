@@ -55,8 +55,8 @@ put-past a t x h = let z : length a - x ≡ 0 = omega arith in record { wrote = 
 pub put-none : (a : List ℕ) (x : ℕ) → Put a a [] x x
 put-none a x = record { wrote = rw take-nil (wrote-none a x) }
 
-pub put-byte : (a : List ℕ) (x b : ℕ) → x < length a → Put a (set a x b) (b ∷ []) x (x + 1)
-put-byte a x b h = record { wrote = rw (take-all (length a - x) (b ∷ []) (omega arith)) (wrote-byte a x b h) }
+pub put-byte : (a : List ℕ) (x b : ℕ) {z : ℕ} → x < length a → z ≡ x + 1 → Put a (set a x b) (b ∷ []) x z
+put-byte a x b h e = record { wrote = rw (e, take-all (length a - x) (b ∷ []) (omega arith)) (wrote-byte a x b h) }
 
 -- where there is room for all of the text, all of it is put
 pub put-fits : {a b t : List ℕ} {x z : ℕ} → Put a b t x z → x + length t ≤ length a → Wrote a b t x z

@@ -1,9 +1,10 @@
 -- `writing::put` meets its contract. The loop's invariant: the first k bytes are put, and end is behind them.
 use mathlib.Core.Path.{_≡_, refl}
-use Prim.Native.Nat.{_-_, _≤_}
+use mathlib.Core.List.{List, [], _∷_}
+use Prim.Native.Nat.{ℕ, _+_, _-_, _≤_, _<_}
 use native.Mathlib.Numerals.{add-one}
 use native.Mathlib.Omega.{arith}
-use lib.ListN.{length, take}
+use lib.ListN.{length, getD, take}
 use lib.Seq.{take-length, take-suc}
 use Rattle.writing.specs.Writing.{Put}
 use Rattle.writing.proofs.Writes.{put-none, put-length, put-then}
@@ -15,6 +16,12 @@ Inv-loop out₀ at s end₀ k₀ k-end out end k = (k ≤ length s) × (k-end �
 
 abbrev μ-loop : tie.MeasureT-loop
 μ-loop out₀ at s end₀ k₀ k-end out end k = length s - k
+
+-- one byte more
+one-more :
+    {a b c : List ℕ} {x y z : ℕ} (s : List ℕ) (k j : ℕ)
+    → Put a b (take k s) x y → Put b c (getD s j 0 ∷ []) y z → j ≡ k → k < length s → Put a c (take (k + 1) s) x z
+one-more s k j p q e h = rw (add-one, take-suc s k 0 h) (put-then p (rw e at q))
 
 loop-holds : tie.Need-loop-holds Inv-loop μ-loop
 loop-holds c = (omega arith, refl, put-none (c .before .before .args .out .now) (c .before .before .args .at))
@@ -32,7 +39,7 @@ loop-again : tie.Need-loop-again Inv-loop μ-loop
 loop-again c =
     let s = c .before .before .before .before .before .before .before .before .before .args .s .now in
     let l = c .before .before .before .before .before .before .loop in
-    (omega arith, refl, rw (add-one, take-suc s (l .k) 0 (omega arith)) (put-then (l .inv .2) (c .before .before .put-byte .ensures)))
+    (omega arith, refl, one-more s (l .k) _ (l .inv .2) (c .before .before .put-byte .ensures) (omega arith) (omega arith))
 
 same-length : tie.Need-same-length Inv-loop μ-loop
 same-length c = put-length (c .before .loop .inv .2)

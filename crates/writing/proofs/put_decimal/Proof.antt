@@ -12,7 +12,7 @@ returns : tie.Need-returns
 returns c =
     let w = c .before .before .before .before .before .decimal in
     let n = c .before .before .before .before .before .before .before .before .args .n in
-    let e : take (w .result) (w .last .1 .0) ≡ decimal n = w .ensures .1 .1 ∙ decimal-is n (w .result) (omega arith) (w .ensures .1 .0) in
+    let e : take (w .result) (w .last .1 .0) ≡ decimal n = w .ensures .1 .1 ∙ decimal-is n _ (w .result) (w .ensures .1 .0) (omega arith) (omega arith) in
     rw e at (c .before .before .put .ensures)
 
 pub put-decimal-spec : {M : Type 1} → statement M

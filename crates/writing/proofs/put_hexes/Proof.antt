@@ -1,8 +1,10 @@
 -- `writing::put_hexes` meets its contract. The loop's invariant: the first k bytes are put, and end is behind them.
 use mathlib.Core.Path.{_≡_, refl}
-use Prim.Native.Nat.{_-_, _≤_}
+use mathlib.Core.List.{List}
+use Prim.Native.Nat.{ℕ, _+_, _-_, _≤_}
 use native.Mathlib.Omega.{arith}
-use lib.ListN.{length}
+use lib.ListN.{length, getD}
+use Rattle.io.specs.Digits.{digits}
 use Rattle.writing.specs.Writing.{Put}
 use Rattle.writing.specs.Text.{hexes}
 use Rattle.writing.proofs.Writes.{put-none, put-length, put-then}
@@ -15,6 +17,12 @@ Inv-loop out₀ at s end₀ k₀ k-end out end k = (k ≤ length s) × (k-end �
 
 abbrev μ-loop : tie.MeasureT-loop
 μ-loop out₀ at s end₀ k₀ k-end out end k = length s - k
+
+-- one byte more
+one-more :
+    {a b c : List ℕ} {x y z : ℕ} (s : List ℕ) (k j : ℕ)
+    → Put a b (hexes s k) x y → Put b c (digits 16 2 (getD s j 0)) y z → j ≡ k → Put a c (hexes s (k + 1)) x z
+one-more s k j p q e = rw (hexes-more s k) (put-then p (rw e at q))
 
 loop-holds : tie.Need-loop-holds Inv-loop μ-loop
 unfolding hexes
@@ -33,7 +41,7 @@ loop-again : tie.Need-loop-again Inv-loop μ-loop
 loop-again c =
     let s = c .before .before .before .before .before .before .before .before .before .args .s .now in
     let l = c .before .before .before .before .before .before .loop in
-    (omega arith, refl, rw (hexes-more s (l .k)) (put-then (l .inv .2) (c .before .before .put-hex .ensures)))
+    (omega arith, refl, one-more s (l .k) _ (l .inv .2) (c .before .before .put-hex .ensures) (omega arith))
 
 same-length : tie.Need-same-length Inv-loop μ-loop
 same-length c = put-length (c .before .loop .inv .2)
