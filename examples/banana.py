@@ -22,7 +22,7 @@ def arguments(lists):
 library = ctypes.CDLL(sys.argv[1])
 library.lyndon_build.restype = BuildReply
 library.lyndon_runs.restype = Reply
-assert library.lyndon_version() == 6, "another version of the library than this program is written for"
+assert library.lyndon_version() == 7, "another version of the library than this program is written for"
 
 letters = b"banana"
 n = len(letters)

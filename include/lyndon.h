@@ -1,5 +1,5 @@
 /* The Lyndon structure of a string: nearest smaller suffixes, their matches, and the bracket tree; all its runs; the check of a next
- * table that others made; and a string for a tree.
+ * table that others made; a string for a tree; and all trees of a small size.
  *
  * A string has n letters, n from 0 to 1,000,000, of one byte each or, for the functions whose names end in 32 and in the string that
  * lyndon_tree_string writes, of 32 bits each:
@@ -43,8 +43,8 @@
  *
  * Refusals. No caller has to test anything first: each function takes every value of every number and every length, and answers
  * with a refusal where the rules ask for one, else with 0. Where several apply, the lowest number is returned, except by the
- * two functions of a cabinet, which test in the order given at each. A refusal writes nothing to the lent memory, but for 13, which
- * clears the work tables of lyndon_runs or lyndon_runs32 and leaves all else.
+ * functions of a cabinet and those of small trees, which test in the order given at each. A refusal writes nothing to the lent
+ * memory, but for 13, which clears the work tables of lyndon_runs or lyndon_runs32 and leaves all else.
  *
  * Memory. Each list passes as a pointer and then its length in entries. What nothing can test, and a caller must see to:
  *   - a pointer points to so many entries, aligned as their type asks;
@@ -72,7 +72,7 @@ extern "C" {
 /* The version of this header: it rises when a function is added, and with every change of a structure or a function, of what it
  * answers too. A program whose LYNDON_VERSION is not what lyndon_version() returns was compiled against another header than the
  * archive's, and is to be compiled again. */
-#define LYNDON_VERSION 6
+#define LYNDON_VERSION 7
 
 /* The version of the archive. */
 uint32_t lyndon_version(void);
@@ -105,7 +105,8 @@ typedef enum LyndonRefusal {
                                          comes before it, with bytes missing or left over at the end, or with a letter count above
                                          1,000,000 */
     LYNDON_UNEQUAL_LIST_LENGTHS = 12, /* the three lists for runs differ in length */
-    LYNDON_TOO_MANY_RUNS = 13         /* more runs than entries in each of the three lists */
+    LYNDON_TOO_MANY_RUNS = 13,        /* more runs than entries in each of the three lists */
+    LYNDON_SIZE_OUTSIDE = 14          /* a size outside 1 to 12 */
 } LyndonRefusal;
 
 /* The answer of lyndon_build and lyndon_build32. Where it is refused, every member but `refusal` is 0. */
@@ -132,6 +133,12 @@ typedef struct LyndonCheckReply {
     uint32_t right;   /* 1 where every entry of the claimed table is the defined one, else 0; 0 where refused */
     size_t position;  /* the least position whose entry is wrong; 0 where none is, and where refused */
 } LyndonCheckReply;
+
+/* The answer of lyndon_next_tree. */
+typedef struct LyndonNextReply {
+    uint32_t refusal; /* 0, or 3, 6, 7, 8, 14 */
+    uint32_t last;    /* 1 where the tree is the last of its size, else 0; 0 where refused */
+} LyndonNextReply;
 
 /* A part of the caller's string, of lyndon_word its bytes and of lyndon_word32 its symbols. */
 typedef struct LyndonPartReply {
@@ -206,6 +213,21 @@ LyndonReply lyndon_place(size_t n, const uint8_t *tree, size_t tree_length, size
  * Memory: a refusal leaves the symbols as they were. Otherwise every one of them is written. The tree is only read. */
 uint32_t lyndon_tree_string(size_t n, const uint8_t *tree, size_t tree_length,
                             uint32_t *symbols, size_t symbols_length);
+
+/* Writes the first tree of `size` positions, size from 1 to 12: all openings, and then all closings. The trees of a size are all its
+ * balanced trees, ordered by their first differing bracket, an opening before a closing. Those of size 3 are ((())), (()()), (())(),
+ * ()(()), ()()(), whose bytes are 07, 0b, 13, 0d, 15. Returns the refusal, or 0.
+ *
+ * Refusals, in the order in which they are tested: 14, 3.
+ * Memory: a refusal leaves the tree as it was. Otherwise every byte of it is written. */
+uint32_t lyndon_first_tree(size_t size, uint8_t *tree, size_t tree_length);
+
+/* Writes the tree after `tree` in its place, in the order that lyndon_first_tree gives; or, where `last` is 1, there is none. Starting
+ * from the first tree and going on to the last reaches each tree of the size exactly once: 208,012 trees for size 12.
+ *
+ * Refusals, in the order in which they are tested: 14, 3, 6, 7, 8.
+ * Memory: a refusal leaves the tree as it was, and so does the last tree. Otherwise every byte of it is written. */
+LyndonNextReply lyndon_next_tree(size_t size, uint8_t *tree, size_t tree_length);
 
 /* The longest Lyndon word that starts at `position`: it starts there, and its length is next[position] - position. The part is that
  * of the caller's own letters, small ones and capitals as they stand. n is letters_length.

@@ -1,7 +1,7 @@
 //! Times the library beside plain Rust: builds, checks and runs of 1,000,000 letters, how their cost grows,
-//! trees, strings for them, and cabinets of them; and builds, checks and runs of 1,000,000 symbols of 32 bits.
-//! `cargo bench -- runs` measures the runs of letters alone, and so for `builds`, `checks`, `trees`, `strings`,
-//! `cabinets` and `symbols`.
+//! trees, strings for them, all small trees, and cabinets of trees; and builds, checks and runs of 1,000,000
+//! symbols of 32 bits. `cargo bench -- runs` measures the runs of letters alone, and so for `builds`, `checks`,
+//! `trees`, `strings`, `small_trees`, `cabinets` and `symbols`.
 //!
 //! Both sides take turns in one run, on the same input and the same buffers, which are not cleared
 //! between. Each answer is compared with the first one, outside the measured time. The time is that which
@@ -10,10 +10,11 @@
 use std::fmt::Debug;
 use std::hint::black_box;
 
-use lyndon::{raw, Built, Checked, Refusal};
+use lyndon::{raw, Built, Checked, Refusal, Step};
 use reference::fast::{self, Scanned};
 use reference::samples::{self, Random};
-use reference::{cabinet, fast_brackets, fast_runs, fast_tree_string, Figures};
+use reference::small_trees::MAX_SIZE;
+use reference::{cabinet, fast_brackets, fast_runs, fast_small_trees, fast_tree_string, Figures};
 
 const LETTERS: usize = 1_000_000;
 const BUILD_ROUNDS: usize = 31;
@@ -526,6 +527,26 @@ fn compare_strings_of_small_trees() {
     }
 }
 
+/// All trees of the greatest size, one after the other in one buffer. The answer is their number.
+fn compare_all_trees() {
+    let size = black_box(MAX_SIZE);
+    println!("\nAll trees of size {size}, {TREE_ROUNDS} rounds.");
+    print_head(&format!("trees | {}", Comparison::COLUMNS));
+    let count = |tree: &mut Vec<u8>| {
+        lyndon::first_tree_into(size, tree).expect("not refused");
+        let steps = std::iter::repeat_with(|| lyndon::next_tree(size, tree));
+        1 + steps.take_while(|step| *step == Ok(Step::Next)).count()
+    };
+    let count_plain = |tree: &mut Vec<u8>| {
+        fast_small_trees::first(size, tree).expect("not refused");
+        let steps = std::iter::repeat_with(|| fast_small_trees::next(size, tree));
+        1 + steps.take_while(|step| *step == Ok(true)).count()
+    };
+    let mut tree = vec![7; size.div_ceil(4)];
+    let comparison = Comparison::run(TREE_ROUNDS, &mut tree, count, count_plain);
+    println!("| {} | {} |", count(&mut tree), comparison.row());
+}
+
 fn compare_cabinets(trees: &[(&str, Vec<u8>)]) {
     let entries = lyndon::MAX_ENTRIES;
     println!("\nCabinets of {entries} trees of {LETTERS} positions, {CABINET_ROUNDS} rounds.");
@@ -611,6 +632,9 @@ fn main() {
     if asked("strings") {
         compare_strings(&trees());
         compare_strings_of_small_trees();
+    }
+    if asked("small_trees") {
+        compare_all_trees();
     }
     if asked("cabinets") {
         compare_cabinets(&trees());

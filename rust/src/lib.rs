@@ -2,7 +2,8 @@
 //! it, the letters they share, and the bracket tree of the previous smaller suffixes. Many trees fit in
 //! one cabinet file, written by [`cabinet_write`] and read by [`cabinet_read`]. [`runs()`] gives all tandem
 //! repeats, and [`check`] says whether a next table that others made is right. Letters are bytes, or numbers of
-//! 32 bits, such as allele lengths. [`tree_string`] gives a string for a tree that is held without its letters.
+//! 32 bits, such as allele lengths. [`tree_string`] gives a string for a tree that is held without its letters,
+//! and [`all_trees`] gives all trees of a small size.
 //!
 //! This is a safe wrapper of `liblyndon.a`. Nothing has to be tested before a call: every input is
 //! answered, by a value or by a [`Refusal`], and a refusal writes nothing to the lent memory, but for
@@ -57,6 +58,10 @@
 //! let string = lyndon::tree_string(6, &banana.tree)?;
 //! assert_eq!(string, [5, 3, 4, 1, 2, 0]);
 //! assert_eq!(Structure::of_symbols(&string)?.tree, banana.tree);
+//!
+//! // All trees of size 3, from ((())) to ()()().
+//! let trees: Vec<Vec<u8>> = lyndon::all_trees(3)?.collect();
+//! assert_eq!(trees, [[0x07], [0x0b], [0x13], [0x0d], [0x15]]);
 //! # Ok::<(), lyndon::Refusal>(())
 //! ```
 
@@ -64,6 +69,7 @@
 
 use std::error::Error;
 use std::fmt;
+use std::iter::FusedIterator;
 
 pub mod raw;
 
@@ -86,7 +92,8 @@ pub const MAX_LETTERS: usize = 1_000_000;
 pub const MAX_ENTRIES: usize = 64;
 
 /// Why an input is refused. Where several apply, the one with the lowest number is returned;
-/// [`cabinet_write`] and [`cabinet_read`] test in an order of their own, which is given there.
+/// [`cabinet_write`], [`cabinet_read`], [`first_tree_into`] and [`next_tree`] test in an order of their own,
+/// which is given there.
 #[derive(Debug, Clone, Copy, PartialEq, Eq, Hash)]
 #[repr(u32)]
 pub enum Refusal {
@@ -121,11 +128,13 @@ pub enum Refusal {
     ListLengths = 12,
     /// 13: more runs than entries in each of the three lists.
     TooManyRuns = 13,
+    /// 14: a size outside 1 to 12.
+    SizeOutside = 14,
 }
 
 impl Refusal {
     /// All refusals, by their numbers.
-    pub const ALL: [Refusal; 13] = [
+    pub const ALL: [Refusal; 14] = [
         Refusal::TooLong,
         Refusal::TableLength,
         Refusal::TreeLength,
@@ -139,9 +148,10 @@ impl Refusal {
         Refusal::WrongContents,
         Refusal::ListLengths,
         Refusal::TooManyRuns,
+        Refusal::SizeOutside,
     ];
 
-    /// The refusal's number, 1 to 13.
+    /// The refusal's number, 1 to 14.
     pub fn number(self) -> u32 {
         self as u32
     }
@@ -187,6 +197,7 @@ impl fmt::Display for Refusal {
             }
             Refusal::ListLengths => "the three lists for runs differ in length",
             Refusal::TooManyRuns => "more runs than entries in the lists",
+            Refusal::SizeOutside => "the size is outside 1 to 12",
         };
         write!(f, "refused {}: {text}", self.number())
     }
@@ -417,6 +428,124 @@ pub fn tree_string_into(n: usize, tree: &[u8], symbols: &mut [u32]) -> Result<()
     };
     Refusal::check(number)
 }
+
+/// The first tree of `size` positions, `size` from 1 to 12: all openings, and then all closings.
+///
+/// The trees of a size are all its balanced trees, ordered by their first differing bracket, an opening before a
+/// closing. [`next_tree`] goes on from one to the next, and [`all_trees`] gives all of them.
+///
+/// ```
+/// assert_eq!(lyndon::first_tree(3)?, [0b000111]);
+/// assert_eq!(lyndon::first_tree(13), Err(lyndon::Refusal::SizeOutside));
+/// # Ok::<(), lyndon::Refusal>(())
+/// ```
+///
+/// # Errors
+///
+/// Refusal 14.
+pub fn first_tree(size: usize) -> Result<Vec<u8>, Refusal> {
+    let mut tree = vec![0; tree_length(lent_entries(size))];
+    first_tree_into(size, &mut tree)?;
+    Ok(tree)
+}
+
+/// Writes the first tree of `size` positions, as [`first_tree`] gives it, into lent memory. `tree` has
+/// [`tree_length`]`(size)` bytes. All of them are written, whatever they held before.
+///
+/// # Errors
+///
+/// Refusals 14, 3, tested in this order. Nothing is written then.
+pub fn first_tree_into(size: usize, tree: &mut [u8]) -> Result<(), Refusal> {
+    // SAFETY: the pointer comes from an exclusive slice with its length.
+    Refusal::check(unsafe { raw::lyndon_first_tree(size, tree.as_mut_ptr(), tree.len()) })
+}
+
+/// What comes of going on from a tree.
+#[derive(Debug, Clone, Copy, PartialEq, Eq, Hash)]
+pub enum Step {
+    /// The next tree is written in its place.
+    Next,
+    /// It is the last of its size, and is left as it was.
+    Last,
+}
+
+/// Writes the tree after `tree` in its place, in the order of [`first_tree`], or says that it is the last.
+///
+/// Starting from the first tree and going on to the last reaches each tree of the size exactly once. The trees
+/// of sizes 1 to 12 are 1, 2, 5, 14, 42, 132, 429, 1,430, 4,862, 16,796, 58,786 and 208,012.
+///
+/// ```
+/// use lyndon::Step;
+///
+/// let mut tree = lyndon::first_tree(12)?;
+/// let mut number = 1;
+/// while lyndon::next_tree(12, &mut tree)? == Step::Next {
+///     number += 1;
+/// }
+/// assert_eq!(number, 208_012);
+/// assert_eq!(tree, [0x55, 0x55, 0x55]);
+/// # Ok::<(), lyndon::Refusal>(())
+/// ```
+///
+/// # Errors
+///
+/// Refusals 14, 3, 6, 7, 8, tested in this order. Nothing is written then.
+pub fn next_tree(size: usize, tree: &mut [u8]) -> Result<Step, Refusal> {
+    // SAFETY: the pointer comes from an exclusive slice with its length.
+    let reply = unsafe { raw::lyndon_next_tree(size, tree.as_mut_ptr(), tree.len()) };
+    Refusal::check(reply.refusal)?;
+    Ok(if reply.last != 0 {
+        Step::Last
+    } else {
+        Step::Next
+    })
+}
+
+/// All trees of `size` positions, `size` from 1 to 12, each once, in the order of [`first_tree`].
+///
+/// ```
+/// // The string for each tree of size 3.
+/// for tree in lyndon::all_trees(3)? {
+///     let string = lyndon::tree_string(3, &tree)?;
+///     assert_eq!(lyndon::Structure::of_symbols(&string)?.tree, tree);
+/// }
+/// assert_eq!(lyndon::all_trees(3)?.count(), 5);
+/// # Ok::<(), lyndon::Refusal>(())
+/// ```
+///
+/// Each tree is in memory of its own; whoever wants them in one buffer uses [`first_tree_into`] and
+/// [`next_tree`].
+///
+/// # Errors
+///
+/// Refusal 14.
+pub fn all_trees(size: usize) -> Result<AllTrees, Refusal> {
+    let tree = Some(first_tree(size)?);
+    Ok(AllTrees { size, tree })
+}
+
+/// The trees that [`all_trees`] gives.
+#[derive(Debug, Clone)]
+pub struct AllTrees {
+    size: usize,
+    /// The tree that comes next, none behind the last.
+    tree: Option<Vec<u8>>,
+}
+
+impl Iterator for AllTrees {
+    type Item = Vec<u8>;
+
+    fn next(&mut self) -> Option<Vec<u8>> {
+        let tree = self.tree.take()?;
+        let mut after = tree.clone();
+        if next_tree(self.size, &mut after).expect("a tree of its size") == Step::Next {
+            self.tree = Some(after);
+        }
+        Some(tree)
+    }
+}
+
+impl FusedIterator for AllTrees {}
 
 /// The longest Lyndon word that starts at `position`, as a part of `letters` itself, its small letters and
 /// capitals as they stand.

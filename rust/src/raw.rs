@@ -2,7 +2,7 @@
 //! as a pointer and a length. `include/lyndon.h` declares the same.
 
 /// The version of these declarations, `LYNDON_VERSION` in the header. [`lyndon_version`] returns that of the archive.
-pub const VERSION: u32 = 6;
+pub const VERSION: u32 = 7;
 
 /// The answer of [`lyndon_build`] and [`lyndon_build32`].
 #[repr(C)]
@@ -42,6 +42,16 @@ pub struct CheckReply {
     pub right: u32,
     /// The least position whose entry is wrong, 0 where none is and where refused.
     pub position: usize,
+}
+
+/// The answer of [`lyndon_next_tree`].
+#[repr(C)]
+#[derive(Debug, Clone, Copy, PartialEq, Eq)]
+pub struct NextReply {
+    /// The refusal's number, 0 where not refused.
+    pub refusal: u32,
+    /// 1 where the tree is the last of its size, else 0; 0 where refused.
+    pub last: u32,
 }
 
 /// A part of the caller's string, counted in letters.
@@ -283,6 +293,20 @@ extern "C" {
         symbols: *mut u32,
         symbols_length: usize,
     ) -> u32;
+
+    /// Writes the first tree of a size. Returns the refusal's number, 0 where written.
+    ///
+    /// # Safety
+    ///
+    /// `tree` is not null and points to `tree_length` bytes.
+    pub fn lyndon_first_tree(size: usize, tree: *mut u8, tree_length: usize) -> u32;
+
+    /// Writes the tree after a tree in its place. Where it is the last of its size, nothing is written.
+    ///
+    /// # Safety
+    ///
+    /// As for [`lyndon_first_tree`].
+    pub fn lyndon_next_tree(size: usize, tree: *mut u8, tree_length: usize) -> NextReply;
 
     /// The longest Lyndon word at a position, as a part of the caller's own letters.
     ///

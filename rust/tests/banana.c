@@ -255,6 +255,29 @@ static int tree_string_agrees(void)
         && memcmp(tables[0], previous, sizeof previous) == 0 && memcmp(tables[1], next, sizeof next) == 0;
 }
 
+/* Whether the trees of size 3 come in their order, the last is left alone, and sizes 0 and 13 and a tree that is closed too early are
+ * refused and leave the buffer. */
+static int small_trees_agree(void)
+{
+    static const uint8_t trees[5] = {0x07, 0x0b, 0x13, 0x0d, 0x15};
+    static uint8_t buffer[LYNDON_TREE_BYTES(3)], early[LYNDON_TREE_BYTES(3)] = {0x0e};
+    uint32_t none = lyndon_first_tree(0, buffer, 0);
+    LyndonNextReply large = lyndon_next_tree(13, early, sizeof early);
+    LyndonNextReply closed = lyndon_next_tree(3, early, sizeof early);
+    uint32_t refusal = lyndon_first_tree(3, buffer, sizeof buffer);
+    size_t k;
+    for (k = 0; k < 5; k++) {
+        int as_defined = buffer[0] == trees[k];
+        LyndonNextReply reply = lyndon_next_tree(3, buffer, sizeof buffer);
+        if (!as_defined || reply.refusal != 0 || reply.last != (k == 4)) {
+            return 0;
+        }
+    }
+    return refusal == 0 && buffer[0] == trees[4] && none == LYNDON_SIZE_OUTSIDE
+        && large.refusal == LYNDON_SIZE_OUTSIDE && large.last == 0
+        && closed.refusal == LYNDON_CLOSED_TOO_EARLY && closed.last == 0 && early[0] == 0x0e;
+}
+
 int main(void)
 {
     size_t i;
@@ -299,6 +322,9 @@ int main(void)
     }
     if (!tree_string_agrees()) {
         return failed("lyndon_tree_string");
+    }
+    if (!small_trees_agree()) {
+        return failed("lyndon_first_tree and lyndon_next_tree");
     }
 
     printf("length %d comparisons %lu tree ", N, (unsigned long)(built.equal + built.unequal));

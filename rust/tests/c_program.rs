@@ -124,6 +124,7 @@ fn the_constants_and_structures_are_those_of_the_wrapper() {
     expected += &layout!(BuildReply: refusal finished rows equal unequal reach);
     expected += &layout!(Reply: refusal value);
     expected += &layout!(CheckReply: refusal right position);
+    expected += &layout!(NextReply: refusal last);
     expected += &layout!(PartReply: refusal start length);
     expected += &layout!(CabinetReply: refusal mark letters start length);
     assert_eq!(printed(compile("header.c", "c99")), expected);

@@ -35,6 +35,7 @@ int main(void)
     SHOW(LYNDON_WRONG_CONTENTS);
     SHOW(LYNDON_UNEQUAL_LIST_LENGTHS);
     SHOW(LYNDON_TOO_MANY_RUNS);
+    SHOW(LYNDON_SIZE_OUTSIDE);
     SHOW(LYNDON_TREE_BYTES(0));
     SHOW(LYNDON_TREE_BYTES(1));
     SHOW(LYNDON_TREE_BYTES(4));
@@ -55,6 +56,9 @@ int main(void)
     SHOW(offsetof(LyndonCheckReply, right));
     SHOW(offsetof(LyndonCheckReply, position));
     SHOW(sizeof(LyndonCheckReply));
+    SHOW(offsetof(LyndonNextReply, refusal));
+    SHOW(offsetof(LyndonNextReply, last));
+    SHOW(sizeof(LyndonNextReply));
     SHOW(offsetof(LyndonPartReply, refusal));
     SHOW(offsetof(LyndonPartReply, start));
     SHOW(offsetof(LyndonPartReply, length));

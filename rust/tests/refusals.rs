@@ -1,19 +1,20 @@
 //! Every refusal and every pair of refusals of every operation but the cabinet's two, of letters and of
-//! symbols: the lowest number is returned, all other figures are 0, and nothing is written, but for the work
-//! tables by 13.
+//! symbols: the one that is tested first is returned, which is the lowest number, but for 14, which comes before
+//! all; all other figures are 0, and nothing is written, but for the work tables by 13.
 
 mod common;
 
 use std::collections::BTreeSet;
 
 use common::{
-    assert_build, assert_read, assert_read_refused, assert_runs, assert_runs_refused,
+    assert_build, assert_first_tree, assert_first_tree_refused, assert_next_tree,
+    assert_next_tree_refused, assert_read, assert_read_refused, assert_runs, assert_runs_refused,
     assert_tree_string, assert_tree_string_refused, assert_word, Lent, Letter, FILLS, LIBRARY,
 };
 use lyndon::{raw, tree_length, Built, Refusal};
 use reference::runs::{by_definition, Run};
 use reference::samples::{random_string, random_tree, widened, Random};
-use reference::{fast, fast_brackets, fast_tree_string, refusals};
+use reference::{fast, fast_brackets, fast_small_trees, fast_tree_string, refusals};
 
 /// Numbers of letters around those where a tree takes one more byte.
 const SMALL: [usize; 9] = [0, 1, 2, 3, 4, 5, 7, 8, 9];
@@ -29,9 +30,9 @@ impl Pairs {
         if let [alone] = applying {
             self.0.insert((*alone, *alone));
         }
-        for (k, &lower) in applying.iter().enumerate() {
-            let higher = applying[k + 1..].iter();
-            self.0.extend(higher.map(|&higher| (lower, higher)));
+        for (k, &first) in applying.iter().enumerate() {
+            let later = applying[k + 1..].iter();
+            self.0.extend(later.map(|&later| (first, later)));
         }
     }
 
@@ -227,6 +228,43 @@ fn strings_of_trees() {
         }
     }
     pairs.assert_all_of(&[1, 2, 3, 6, 7, 8]);
+}
+
+#[test]
+fn first_trees() {
+    let mut pairs = Pairs::default();
+    for size in 0..=14 {
+        for length in around(tree_length(size)) {
+            let applying = refusals::of_first_tree(size, length);
+            pairs.add(&applying);
+            match refusals::first(&applying) {
+                Err(number) => assert_first_tree_refused(size, length, number),
+                Ok(()) => {
+                    let mut expected = vec![0; length];
+                    fast_small_trees::first(size, &mut expected).expect("a size that is taken");
+                    assert_first_tree(size, &expected);
+                }
+            }
+        }
+    }
+    pairs.assert_all_of(&[14, 3]);
+}
+
+#[test]
+fn next_trees() {
+    let mut pairs = Pairs::default();
+    for size in 0..=14 {
+        for tree in trees(size) {
+            let applying = refusals::of_next_tree(size, &tree);
+            pairs.add(&applying);
+            match refusals::first(&applying) {
+                Err(number) => assert_next_tree_refused(size, &tree, number),
+                // The brackets ()() and so on are those of the last tree.
+                Ok(()) => assert_next_tree(size, &tree, None),
+            }
+        }
+    }
+    pairs.assert_all_of(&[14, 3, 6, 7, 8]);
 }
 
 fn check_questions(pairs: &mut Pairs, n: usize, tree: &[u8], position: usize) {
@@ -493,7 +531,7 @@ fn structures_in_memory_of_their_own() {
 #[test]
 fn refusals_have_their_numbers() {
     let numbers = Refusal::ALL.map(Refusal::number);
-    assert_eq!(numbers, [1, 2, 3, 4, 5, 6, 7, 8, 9, 10, 11, 12, 13]);
+    assert_eq!(numbers, [1, 2, 3, 4, 5, 6, 7, 8, 9, 10, 11, 12, 13, 14]);
     assert_eq!(lyndon::MAX_LETTERS, LIMIT);
     assert_eq!(
         Refusal::LeftOpen.to_string(),

@@ -1,7 +1,8 @@
 //! A plain Rust reference for the Lyndon structure of a string. It is written from the definitions of
 //! document 01, and of document 02 for the cabinet, the two counts of comparisons, the runs, masked letters,
-//! symbols of 32 bits and the string of a tree, and shares no code with the library that it is compared with.
-//! Letters of one byte and symbols of 32 bits go through the same code, and differ in their ranks alone.
+//! symbols of 32 bits, the string of a tree and small trees, and shares no code with the library that it is
+//! compared with. Letters of one byte and symbols of 32 bits go through the same code, and differ in their ranks
+//! alone.
 //!
 //! - [`ranks`]: the numbers by which letters compare;
 //! - [`definitions`]: suffixes, tables, tree, reach and Lyndon words, each as defined;
@@ -11,8 +12,10 @@
 //! - [`cabinet`]: a file of many trees, written and read;
 //! - [`runs`]: the runs of a string, as defined and period by period;
 //! - [`tree_string`]: the string of a tree, as defined;
+//! - [`small_trees`]: all trees of a small size, as defined;
 //! - [`fast`], [`fast_brackets`], [`fast_runs`] and [`fast_tree_string`]: the same answers, usable at 1,000,000
 //!   letters;
+//! - [`fast_small_trees`]: small trees one after the other in the same buffer;
 //! - [`samples`]: random numbers, strings and trees for tests.
 
 #![warn(missing_docs)]
@@ -23,11 +26,13 @@ pub mod definitions;
 pub mod fast;
 pub mod fast_brackets;
 pub mod fast_runs;
+pub mod fast_small_trees;
 pub mod fast_tree_string;
 pub mod ranks;
 pub mod refusals;
 pub mod runs;
 pub mod samples;
+pub mod small_trees;
 pub mod steps;
 pub mod tree_string;
 

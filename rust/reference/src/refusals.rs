@@ -1,6 +1,7 @@
-//! The refusals that apply to an operation's input, by their numbers in ascending order. The first of
-//! them is the one that the operation returns.
+//! The refusals that apply to an operation's input, by their numbers in the order in which they are tested,
+//! which is ascending, but for 14. The first of them is the one that the operation returns.
 
+use crate::small_trees::MAX_SIZE;
 use crate::{brackets, MAX_LETTERS};
 
 /// An operation's refusal, out of those that apply.
@@ -27,6 +28,10 @@ fn table_length(n: usize, lengths: &[usize]) -> bool {
 
 fn tree_length(n: usize, length: usize) -> bool {
     length != n.div_ceil(4)
+}
+
+fn size_outside(size: usize) -> bool {
+    !(1..=MAX_SIZE).contains(&size)
 }
 
 /// Build: 1 to 4.
@@ -60,6 +65,22 @@ pub fn of_tree_string(n: usize, tree: &[u8], symbols: usize) -> Vec<u32> {
         (6, brackets::spare_bit_set(n, tree)),
         (7, brackets::closed_too_early(n, tree)),
         (8, brackets::left_open(n, tree)),
+    ])
+}
+
+/// The first tree of a size, in a buffer of so many bytes: 14, 3.
+pub fn of_first_tree(size: usize, tree: usize) -> Vec<u32> {
+    applying([(14, size_outside(size)), (3, tree_length(size, tree))])
+}
+
+/// The tree after a tree: 14, 3, 6, 7, 8.
+pub fn of_next_tree(size: usize, tree: &[u8]) -> Vec<u32> {
+    applying([
+        (14, size_outside(size)),
+        (3, tree_length(size, tree.len())),
+        (6, brackets::spare_bit_set(size, tree)),
+        (7, brackets::closed_too_early(size, tree)),
+        (8, brackets::left_open(size, tree)),
     ])
 }
 

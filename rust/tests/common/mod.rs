@@ -5,7 +5,7 @@
 
 use std::fmt::Debug;
 
-use lyndon::{raw, Built, Checked, Refusal};
+use lyndon::{raw, Built, Checked, Refusal, Step};
 use reference::fast::{self, Scanned};
 use reference::runs::{self, Run};
 use reference::samples::Random;
@@ -124,6 +124,13 @@ impl<T: Entry> Guarded<T> {
             entries: (0..length + 2 * GUARD).map(|i| fill.entry(i)).collect(),
             fill,
         }
+    }
+
+    /// A list to be lent that holds these entries.
+    pub fn holding(entries: &[T], fill: Fill) -> Guarded<T> {
+        let mut list = Guarded::new(entries.len(), fill);
+        list.lent().copy_from_slice(entries);
+        list
     }
 
     /// The list without its guards, to be lent.
@@ -434,8 +441,7 @@ fn tree_string(
     symbols: usize,
     fill: Fill,
 ) -> (Result<(), Refusal>, Guarded<u32>) {
-    let mut lent_tree = Guarded::new(tree.len(), fill);
-    lent_tree.lent().copy_from_slice(tree);
+    let mut lent_tree = Guarded::holding(tree, fill);
     let mut symbols = Guarded::new(symbols, fill);
     let outcome = lyndon::tree_string_into(n, lent_tree.lent(), symbols.lent());
     assert_list("the tree", lent_tree.contents(), tree);
@@ -470,6 +476,73 @@ pub fn assert_tree_string_refused(n: usize, tree: &[u8], symbols: usize, number:
         let refused = lyndon::tree_string(n, tree).map(drop);
         assert_eq!(refused.map_err(Refusal::number), Err(number));
     }
+}
+
+/// Asserts that the first tree of a size is the expected one, in lent memory and in memory of its own.
+pub fn assert_first_tree(size: usize, expected: &[u8]) {
+    for fill in FILLS {
+        let mut tree = Guarded::new(expected.len(), fill);
+        assert_eq!(lyndon::first_tree_into(size, tree.lent()), Ok(()));
+        assert_list("the first tree", tree.contents(), expected);
+    }
+    let tree = lyndon::first_tree(size).expect("a size that is taken");
+    assert_list("the first tree", &tree, expected);
+}
+
+/// Asserts that the first tree of a size is refused in a buffer of so many bytes, and that nothing is written.
+pub fn assert_first_tree_refused(size: usize, length: usize, number: u32) {
+    for fill in FILLS {
+        let mut tree = Guarded::new(length, fill);
+        let outcome = lyndon::first_tree_into(size, tree.lent());
+        assert_eq!(
+            outcome.map_err(Refusal::number),
+            Err(number),
+            "the first tree of size {size} in {length} bytes"
+        );
+        tree.assert_untouched();
+    }
+    // In memory of its own there is no refusal 3.
+    if number != 3 {
+        let refused = lyndon::first_tree(size).map(drop);
+        assert_eq!(refused.map_err(Refusal::number), Err(number));
+        let refused = lyndon::all_trees(size).map(drop);
+        assert_eq!(refused.map_err(Refusal::number), Err(number));
+    }
+}
+
+/// Goes on from a tree in lent memory, by the exported function and by the wrapper's, and returns both answers.
+/// Asserts that the memory holds `left` afterwards.
+fn next_tree(size: usize, tree: &[u8], left: &[u8]) -> (raw::NextReply, Result<Step, Refusal>) {
+    let [mut by_export, mut by_wrapper] = FILLS.map(|fill| Guarded::holding(tree, fill));
+    let lent = by_export.lent();
+    // SAFETY: the pointer comes from an exclusive slice with its length.
+    let reply = unsafe { raw::lyndon_next_tree(size, lent.as_mut_ptr(), lent.len()) };
+    let outcome = lyndon::next_tree(size, by_wrapper.lent());
+    assert_list("the tree", by_export.contents(), left);
+    assert_list("the tree", by_wrapper.contents(), left);
+    (reply, outcome)
+}
+
+/// Asserts that the tree after a tree is the expected one; or, for none, that it is the last and left as it was.
+pub fn assert_next_tree(size: usize, tree: &[u8], expected: Option<&[u8]>) {
+    let (reply, outcome) = next_tree(size, tree, expected.unwrap_or(tree));
+    let (last, step) = match expected {
+        Some(_) => (0, Step::Next),
+        None => (1, Step::Last),
+    };
+    assert_eq!(reply, raw::NextReply { refusal: 0, last });
+    assert_eq!(outcome, Ok(step));
+}
+
+/// Asserts that going on from a tree is refused, and that nothing is written.
+pub fn assert_next_tree_refused(size: usize, tree: &[u8], number: u32) {
+    let (reply, outcome) = next_tree(size, tree, tree);
+    let refused = raw::NextReply {
+        refusal: number,
+        last: 0,
+    };
+    assert_eq!(reply, refused, "size {size}");
+    assert_eq!(outcome.map_err(Refusal::number), Err(number));
 }
 
 /// Asserts what the tree of `rows` rows of an `n`-letter string gives: read at n the whole tables, or

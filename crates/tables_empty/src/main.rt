@@ -1,4 +1,0 @@
-// The tables program, for no letters.
-fn main() {
-    tables_text::run();
-}
