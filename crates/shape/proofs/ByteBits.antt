@@ -72,7 +72,7 @@ half b (suc (suc (suc (suc (suc (suc zero)))))) h = omega arith
 half b (suc (suc (suc (suc (suc (suc (suc zero))))))) h = omega arith
 half b (suc (suc (suc (suc (suc (suc (suc (suc i)))))))) h = absurd (omega arith)
 
-byte-is : (b : ℕ) → b < 256 → b ≡ sumBelow 8 (λ i. 2 ^ i * digit (byteBit b i))
+pub byte-is : (b : ℕ) → b < 256 → b ≡ sumBelow 8 (λ i. 2 ^ i * cond (byteBit b i) 1 0)
 byte-is b h =
     let z : b / 1 ≡ b = omega arith in
     rw z at (halves (λ i. digit (byteBit b i)) (λ i. b / 2 ^ i) (λ i g. rw bit-digit (half b i g)) (omega arith))

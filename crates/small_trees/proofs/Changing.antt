@@ -14,6 +14,7 @@ use Rattle.suffix.specs.Tree.{byteOf}
 use Rattle.suffix.proofs.Cases.{Tri, lt, eq, gt, tri, Same, same, other, same?}
 use Rattle.suffix.proofs.Search.{sum-same, tabulate-is}
 use Rattle.refusal.specs.Conditions.{byteBit, bitOf}
+use Rattle.shape.proofs.ByteBits.{byte-is}
 use Rattle.small_trees.specs.Steps.{changedBit, changedTree}
 
 module _ (was : Bool) (k from to q : ℕ) where
@@ -116,8 +117,22 @@ module _ (t : List ℕ) (k from to : ℕ) where
     done : (i : ℕ) → i < j → i < length t → getD now i 0 ≡ new i
     left : (i : ℕ) → j ≤ i → getD now i 0 ≡ getD t i 0
 
-  pub change-start : ChangedTo 0 t
-  change-start = record { long = refl; done = λ i h w. absurd (omega arith); left = λ i h. refl }
+  -- a byte of which all bits are before bit k
+  new-kept : (j : ℕ) → 8 * j + 8 ≤ k → getD t j 0 < 256 → getD t j 0 ≡ new j
+  unfolding byteOf bitOf
+  new-kept j h b =
+      byte-is (getD t j 0) b
+      ∙ sum-same (λ i. 2 ^ i * cond (byteBit (getD t j 0) i) 1 0) (λ i. 2 ^ i * cond (changedBit (bitOf t (8 * j + i)) k from to (8 * j + i)) 1 0) 8
+      (λ i w. ap (λ c. 2 ^ i * cond c 1 0) (sym (same i w)))
+    where
+      same : (i : ℕ) → i < 8 → changedBit (bitOf t (8 * j + i)) k from to (8 * j + i) ≡ byteBit (getD t j 0) i
+      same i w =
+          let x : (8 * j + i) / 8 ≡ j = omega arith in
+          let z : (8 * j + i) % 8 ≡ i = omega arith in
+          changed-before (bitOf t (8 * j + i)) k from to (8 * j + i) (omega arith) ∙ rw (x, z)
+
+  pub change-start : ((j : ℕ) → getD t j 0 < 256) → ChangedTo (k / 8) t
+  change-start b = record { long = refl; done = λ i h w. new-kept i (omega arith) (b i); left = λ i h. refl }
 
   module _ {j : ℕ} {now : List ℕ} (C : ChangedTo j now) where
     pub old-byte : getD now j 0 ≡ getD t j 0

@@ -59,12 +59,12 @@ fn changed_byte(byte: u8, j: usize, k: usize, from: usize, to: usize) -> u8
     value as u8
 }
 
-// Changes the brackets from bit k on.
+// Changes the brackets from bit k on; the bytes before its byte stay.
 fn change(tree: &mut [u8], k: usize, from: usize, to: usize)
     requires { ⌜ length (now tree) ≤ 3 ⌝ }
     ensures { λ _. ⌜ now (tree .exit) ≡ changedTree (now (tree .entry)) k from to ⌝ }
 {
-    let mut j = 0;
+    let mut j = k / 8;
     while j < tree.len() {
         tree[j] = changed_byte(tree[j], j, k, from, to);
         j += 1;

@@ -14,7 +14,7 @@ abbrev μ-loop : tie.MeasureT-loop
 μ-loop tree₀ k from to j₀ tree j = length tree - j
 
 loop-holds : tie.Need-loop-holds Inv-loop μ-loop
-loop-holds c = let a = c .before .args in change-start (a .tree .now) (a .k) (a .from) (a .to)
+loop-holds c = let a = c .before .args in change-start (a .tree .now) (a .k) (a .from) (a .to) (λ j. omega (arith, c .slice-known .given j))
 
 slice-read-changed-byte : tie.Need-slice-read-changed-byte Inv-loop μ-loop
 slice-read-changed-byte c = omega (arith, c .before .loop-test .taken)

@@ -61,9 +61,11 @@ loop-again : tie.Need-loop-again Inv-loop μ-loop
 loop-again c =
     let m = c .before .before .before .before in
     let d = m .before .before .before in
-    let l = d .before .before .before in
-    (c .before .before .before .tree2 .given ∙ l .loop .inv .0, c .before .text2 .given ∙ l .loop .inv .1,
-    running-again (l .loop .inv .2) (d .if1 .left) (omega (arith, text-long l, s l .pre .1)) (m .make-line .ensures))
+    let l = d .before .before .before in (
+      c .before .before .before .tree2 .given ∙ l .loop .inv .0,
+      c .before .text2 .given ∙ l .loop .inv .1,
+      running-again (l .loop .inv .2) (d .if1 .left) (omega (arith, text-long l, s l .pre .1)) (m .make-line .ensures),
+    )
 
 pub print-lines-spec : {M : Type 1} → statement M
 print-lines-spec =
