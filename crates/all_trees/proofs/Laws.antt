@@ -136,6 +136,24 @@ module _ (n k : ℕ) (h : k < length (treesOf n)) where
   unfolding isLast
   last-is w = eq-eqb (length (treesAfter n t)) 0 (omega (arith, ap length (next n k h), length-drop (suc k) (treesOf n)))
 
+-- and what tells whether one does
+module _ (n k : ℕ) (h : k < length (treesOf n)) where
+  pub last-ends : isLast n (getD (treesOf n) k []) ≡ true → suc k ≡ length (treesOf n)
+  last-ends e = go (tri (suc k) (length (treesOf n)))
+    where
+      go : Tri (suc k) (length (treesOf n)) → suc k ≡ length (treesOf n)
+      go (lt w) = absurd (true≢false (sym e ∙ not-last-is n k h w))
+      go (eq w) = w
+      go (gt w) = absurd (omega arith)
+
+  pub not-last-goes-on : isLast n (getD (treesOf n) k []) ≡ false → suc k < length (treesOf n)
+  not-last-goes-on e = go (tri (suc k) (length (treesOf n)))
+    where
+      go : Tri (suc k) (length (treesOf n)) → suc k < length (treesOf n)
+      go (lt w) = w
+      go (eq w) = absurd (true≢false (sym (last-is n k h w) ∙ e))
+      go (gt w) = absurd (omega arith)
+
 before-not : (v w : List Bool) → before v w ≡ true → before w v ≡ false
 unfolding before
 before-not [] w h = absurd (true≢false (sym h))

@@ -43,6 +43,8 @@ module _ (n : ℕ) (buffer : List ℕ) (size : sizeOutside n ≡ false) (long : 
         first-given = first-taken;
         some = some-tree n;
         reaches = reaches;
+        each = λ t T. let w = treesAreAll n .each t T in (w .0, w .1, reaches (w .0) (w .1) ∙ w .2);
+        once = λ j k h w e. treesAreAll n .once j k h w (sym (reaches j h) ∙ e ∙ reaches k w);
         goes-on = λ k h. let w : k < length (treesOf n) = omega arith in rw (reaches k w) (next-answered n (tree k) (taken k w) ∙ ap (λ b. cond b last next) (not-last-is n k w h));
         ends = λ k e. let w : k < length (treesOf n) = omega arith in rw (reaches k w) (next-answered n (tree k) (taken k w) ∙ ap (λ b. cond b last next) (last-is n k w e));
       }

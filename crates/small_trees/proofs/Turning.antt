@@ -59,9 +59,11 @@ same-bits n t k from to w e h =
     (λ j u. bytes-same (λ q. changedBit (bitOf t q) k from to q) (λ q. getD w q false) j (λ i c. h (8 * j + i))))
 
 -- n openings from bit 0 on: the first tree
-pub changed-first : (n : ℕ) (t : List ℕ) → length t ≡ treeLength n → changedTree t 0 0 n ≡ firstTree n
-changed-first n t e =
-    same-bits n t 0 0 n (peak n 0) e (λ q. changed-high (bitOf t q) 0 0 n q (omega arith) (omega arith) ∙ sym (peak-entry n 0 q)) ∙ sym (first-tree n)
+pub changed-first : (n : ℕ) (t : List ℕ) → length t ≡ treeLength n → {after : List ℕ} {k from to : ℕ} → after ≡ changedTree t k from to → k ≡ 0 → from ≡ 0 → to ≡ n → after ≡ firstTree n
+changed-first n t e w x y z =
+    w
+    ∙ rw (x, y, z)
+    (same-bits n t 0 0 n (peak n 0) e (λ q. changed-high (bitOf t q) 0 0 n q (omega arith) (omega arith) ∙ sym (peak-entry n 0 q)) ∙ sym (first-tree n))
 
 -- a closing at bit k, then o openings
 turned-bits : (n : ℕ) (t : List ℕ) (k o d : ℕ) → length t ≡ treeLength n → changedTree t k (k + 1) (k + 1 + o) ≡ treeOf n (bracketsFrom (bitOf t) 0 k ++ false ∷ peak o d)
@@ -168,9 +170,9 @@ module _ (n : ℕ) (t : List ℕ) (T : IsBalanced n t) where
         unfolding isLast
         turned-next = ne-eqb (length (treesAfter n t)) 0 (λ z. omega (arith, ap length after-first))
 
-        pub turned-written : changedTree t k (k + 1) (k + 1 + (o + 1)) ≡ nextTree n t
+        pub turned-written : {u after : List ℕ} {j from to : ℕ} → after ≡ changedTree u j from to → u ≡ t → j ≡ k → from ≡ k + 1 → to ≡ k + 1 + (o + 1) → after ≡ nextTree n t
         unfolding nextTree
-        turned-written = turned-bits n t k (o + 1) d (T .size) ∙ sym (ap (λ l. getD l 0 t) after-first)
+        turned-written w v x y z = w ∙ rw (v, x, y, z) (turned-bits n t k (o + 1) d (T .size) ∙ sym (ap (λ l. getD l 0 t) after-first))
 
   -- all are passed
   module _ {o : ℕ} (P : Passed n t 0 o) where

@@ -1,6 +1,6 @@
 // The trees of a small size, one after the other in the same buffer.
 ghost use mathlib.Core.Path.{_≡_};
-ghost use Prim.Native.Nat.{_%_, _≤_};
+ghost use Prim.Native.Nat.{_%_, _≤_, _<_};
 ghost use lib.ListN.{length};
 ghost use Rattle.suffix.specs.Tree.{byteOf};
 ghost use Rattle.refusal.specs.Numbers.{verdictNumber};
@@ -13,7 +13,7 @@ use refusal::Refusal;
 use refusal::Verdict;
 use suffix::tree_length;
 
-// What came of going on from a tree: the next one is in the buffer, or there is none.
+// What came of going on from a tree: the next one is in the buffer, the tree is the last, or it is refused.
 pub enum Step {
     Next,
     Last,
@@ -41,7 +41,7 @@ fn changed_bit(byte: u8, k: usize, from: usize, to: usize, q: usize) -> bool
 
 // Byte j of changed brackets.
 fn changed_byte(byte: u8, j: usize, k: usize, from: usize, to: usize) -> u8
-    requires { ⌜ j ≤ 3 ⌝ }
+    requires { ⌜ j < 3 ⌝ }
     ensures { λ r. ⌜ r ≡ byteOf (λ q. changedBit (byteBit byte (q % 8)) k from to q) j ⌝ }
 {
     let mut value = 0u32;
@@ -85,8 +85,8 @@ pub fn first(size: usize, tree: &mut [u8]) -> Verdict
     Verdict::Accepted
 }
 
-// Goes on from a tree that is not refused: the last opening in front of which something is open becomes a closing, and behind it come
-// the openings that are left and then closings.
+// Goes on from a tree that is not refused: the last opening before which something is open becomes a closing, and after it come the openings
+// that are left and then closings. Something is open before bit k where of the 2 size - k brackets from there on fewer than half are openings.
 fn go_on(size: usize, tree: &mut [u8]) -> Step
     requires { ⌜ (size ≤ 12) × (treeRefusal size (now tree) ≡ 0) ⌝ }
     ensures { λ r. ⌜ Stepped size (now (tree .entry)) (now (tree .exit)) (goingOf r) ⌝ }

@@ -1,18 +1,23 @@
 -- The claims of specs/Claims.antt, each proved.
 use mathlib.Core.Path.{_≡_, refl, sym, ap, ap₂, _∙_}
-use mathlib.Core.Bool.{false}
-use mathlib.Core.List.{List, _++_}
-use Prim.Native.Nat.{ℕ, zero, suc, _≤_}
+use mathlib.Core.Bool.{Bool, true, false, true≢false}
+use mathlib.Core.List.{List, [], _∷_, _++_, append-assoc, append-nil}
+use Prim.Native.Nat.{ℕ, zero, suc, _≤_, _<_}
 use native.Mathlib.Omega.{arith}
-use lib.ListN.{length}
+use lib.ListN.{length, getD, take}
 use Rattle.suffix.specs.Tree.{treeLength}
-use Rattle.all_trees.specs.Trees.{treesOf}
-use Rattle.small_trees.specs.Answers.{sizeOutside}
-use Rattle.small_trees.proofs.Answering.{first-14}
+use Rattle.suffix.proofs.Cases.{Same, same, other, same?}
+use Rattle.refusal.proofs.Numbers.{unless-taken, unless-refused}
+use Rattle.writing.specs.Writing.{Put}
+use Rattle.writing.proofs.Writes.{put-fits}
+use Rattle.all_trees.specs.Trees.{treesOf, firstTree, nextTree, isLast}
+use Rattle.all_trees.proofs.Laws.{some-tree, next-is, last-ends, not-last-goes-on}
+use Rattle.small_trees.specs.Answers.{sizeOutside, firstRefusal}
+use Rattle.small_trees.proofs.Answering.{first-14, first-inside}
 use Rattle.small_trees.proofs.Laws.{goingOnReachesEach}
-use Rattle.trees_text.specs.Text.{sizeIn, lineText, linesText, programText}
-use Rattle.trees_text.specs.Claims.{reachedText, TextIsOfGoingOn, OtherSizesAreNone}
-use Rattle.trees_text.proofs.Lines.{text-lines, text-none}
+use Rattle.trees_text.specs.Text.{sizeIn, lineText, linesText, noSizeText, sizeText, programText}
+use Rattle.trees_text.specs.Claims.{reachedText, TextIsOfGoingOn, OtherSizesAreNone, FourBytesTell, LinesAfter, none, line, Printed, LinesMadeAreTheText}
+use Rattle.trees_text.proofs.Lines.{listed-most, text-lines, text-none}
 
 -- up to any line
 lines-reached :
@@ -32,3 +37,53 @@ textIsOfGoingOn input buffer e l =
 pub otherSizesAreNone : OtherSizesAreNone
 unfolding programText
 otherSizesAreNone input e = let n = sizeIn input in text-none n (λ z. omega (arith, first-14 n (treeLength n) e))
+
+pub fourBytesTell : FourBytesTell
+unfolding sizeIn
+fourBytesTell [] = refl
+fourBytesTell (a ∷ []) = refl
+fourBytesTell (a ∷ b ∷ []) = refl
+fourBytesTell (a ∷ b ∷ c ∷ []) = refl
+fourBytesTell (a ∷ b ∷ c ∷ d ∷ input) = refl
+
+-- a text that was put into a buffer with room for it
+put-whole : {a b t : List ℕ} {z : ℕ} → Put a b t 0 z → length t ≤ length a → take z b ≡ t
+put-whole p h = put-fits p (omega arith) .text
+
+-- the lines after the line of tree k
+lines-after :
+    (n k : ℕ) {tree printed : List ℕ} {last : Bool} → sizeOutside n ≡ false → k < length (treesOf n) → tree ≡ nextTree n (getD (treesOf n) k [])
+    → last ≡ isLast n (getD (treesOf n) k []) → LinesAfter n tree last printed → linesText n (suc k) ++ printed ≡ linesText n (length (treesOf n))
+unfolding linesText
+lines-after n k s h t e (none tree) = append-nil (linesText n (suc k)) ∙ ap (linesText n) (last-ends n k h (sym e))
+lines-after n k s h t e (line tree after before text others made x m rest) =
+    let c : suc k < length (treesOf n) = not-last-goes-on n k h (sym e) in
+    let z : tree ≡ getD (treesOf n) (suc k) [] = t ∙ next-is n k h c in
+    let f : length (lineText n tree) ≤ 300 = rw z (listed-most n s (suc k) c .1) in
+    ap (λ p. linesText n (suc k) ++ (p ++ others)) (put-whole (m .text) (omega arith) ∙ ap (lineText n) z)
+    ∙ sym (append-assoc (linesText n (suc k)) (lineText n (getD (treesOf n) (suc k) [])) others)
+    ∙ lines-after n (suc k) s c (m .leaves ∙ ap (nextTree n) z) (m .stop ∙ ap (isLast n) z) rest
+
+none-after : {n : ℕ} {tree printed : List ℕ} {last : Bool} → last ≡ true → LinesAfter n tree last printed → printed ≡ []
+none-after e (none tree) = refl
+none-after e (line tree after before text others made x m rest) = absurd (true≢false (sym e))
+
+pub linesMadeAreTheText : LinesMadeAreTheText
+unfolding firstTree linesText
+linesMadeAreTheText n buffer printed e P = P .is ∙ go (same? (firstRefusal n (length buffer)) 0)
+  where
+    go : Same (firstRefusal n (length buffer)) 0 → take (P .made .length) (P .text) ++ P .others ≡ sizeText n
+    go (same z) =
+        let r = firstRefusal n (length buffer) in
+        let s = first-inside n (length buffer) z in
+        let f = listed-most n s 0 (some-tree n) .1 in
+        let p = rw (unless-taken r (lineText n (firstTree n)) noSizeText z) at (P .begun .text) in
+        ap (_++ P .others) (put-whole p (omega (arith, f, P .room)))
+        ∙ lines-after n 0 s (some-tree n) (P .begun .leaves ∙ unless-taken r (nextTree n (firstTree n)) buffer z) (P .begun .stop ∙ unless-taken r (isLast n (firstTree n)) true z) (P .rest)
+        ∙ sym (text-lines n s)
+    go (other z) =
+        let r = firstRefusal n (length buffer) in
+        let p = rw (unless-refused r (lineText n (firstTree n)) noSizeText z) at (P .begun .text) in
+        ap₂ _++_ (put-whole p (omega (arith, P .room))) (none-after (P .begun .stop ∙ unless-refused r (isLast n (firstTree n)) true z) (P .rest))
+        ∙ append-nil noSizeText
+        ∙ sym (text-none n (rw e at z))

@@ -7,11 +7,11 @@ use Prim.Native.Nat.{ℕ, suc, _+_, _^_, _≤_, _<_}
 use native.Mathlib.Omega.{arith}
 use lib.ListN.{length, getD}
 use Rattle.suffix.specs.Tree.{treeLength}
-use Rattle.suffix.proofs.Cases.{Same, same, other, same?, Tri, lt, eq, gt, tri}
+use Rattle.suffix.proofs.Cases.{Same, same, other, same?}
 use Rattle.refusal.proofs.Numbers.{unless-taken, unless-refused}
 use Rattle.writing.proofs.Writes.{put-fits}
 use Rattle.all_trees.specs.Trees.{treesOf, firstTree, nextTree, isLast}
-use Rattle.all_trees.proofs.Laws.{some-tree, next-is, not-last-is, last-is}
+use Rattle.all_trees.proofs.Laws.{some-tree, next-is, last-ends, not-last-goes-on}
 use Rattle.small_trees.specs.Answers.{sizeOutside, firstRefusal, nextRefusal}
 use Rattle.small_trees.proofs.Answering.{first-inside}
 use Rattle.small_trees.proofs.Laws.{listed-taken}
@@ -29,23 +29,6 @@ pub data Running (n written : ℕ) (line : Line) (tree : List ℕ) : Type 0 wher
   at :
       (k : ℕ) → sizeOutside n ≡ false → k < length (treesOf n) → written ≡ length (linesText n k) → line .length ≡ length (lineText n (treeAt n k))
       → line .last ≡ isLast n (treeAt n k) → tree ≡ nextTree n (treeAt n k) → Running n written line tree
-
--- where a tree stands that is the last, or not
-ends : (n k : ℕ) → k < length (treesOf n) → isLast n (treeAt n k) ≡ true → suc k ≡ length (treesOf n)
-ends n k h e = go (tri (suc k) (length (treesOf n)))
-  where
-    go : Tri (suc k) (length (treesOf n)) → suc k ≡ length (treesOf n)
-    go (lt w) = absurd (true≢false (sym e ∙ not-last-is n k h w))
-    go (eq w) = w
-    go (gt w) = absurd (omega arith)
-
-goes-on : (n k : ℕ) → k < length (treesOf n) → isLast n (treeAt n k) ≡ false → suc k < length (treesOf n)
-goes-on n k h e = go (tri (suc k) (length (treesOf n)))
-  where
-    go : Tri (suc k) (length (treesOf n)) → suc k < length (treesOf n)
-    go (lt w) = w
-    go (eq w) = absurd (true≢false (sym (last-is n k h w) ∙ e))
-    go (gt w) = absurd (omega arith)
 
 module _ {n written : ℕ} {line : Line} {tree : List ℕ} where
   pub running-most : Running n written line tree → line .length ≤ 300
@@ -65,12 +48,12 @@ module _ {n written : ℕ} {line : Line} {tree : List ℕ} where
   pub running-ends : Running n written line tree → line .last ≡ true → written + line .length ≡ length (sizeText n)
   running-ends (none r w l e) q = omega (arith, ap length (text-none n r))
   running-ends (at k s h w l e t) q =
-      omega (arith, lines-more n s k, ap (λ j. length (linesText n j)) (ends n k h (sym e ∙ q)), ap length (text-lines n s))
+      omega (arith, lines-more n s k, ap (λ j. length (linesText n j)) (last-ends n k h (sym e ∙ q)), ap length (text-lines n s))
 
   pub running-taken : Running n written line tree → line .last ≡ false → nextRefusal n tree ≡ 0
   running-taken (none r w l e) q = absurd (true≢false (sym e ∙ q))
   running-taken (at k s h w l e t) q =
-      let c : suc k < length (treesOf n) = goes-on n k h (sym e ∙ q) in
+      let c : suc k < length (treesOf n) = not-last-goes-on n k h (sym e ∙ q) in
       rw (t, next-is n k h c) (listed-taken n (suc k) s c)
 
   pub running-again :
@@ -78,7 +61,7 @@ module _ {n written : ℕ} {line : Line} {tree : List ℕ} where
       → Running n (written + line .length) made after
   running-again (none r w l e) q x m = absurd (true≢false (sym e ∙ q))
   running-again (at k s h w l e t) q x m =
-      let c : suc k < length (treesOf n) = goes-on n k h (sym e ∙ q) in
+      let c : suc k < length (treesOf n) = not-last-goes-on n k h (sym e ∙ q) in
       let z : tree ≡ treeAt n (suc k) = t ∙ next-is n k h c in
       let f : length (lineText n tree) ≤ 300 = rw z (listed-most n s (suc k) c .1) in
       at (suc k) s c (omega (arith, lines-more n s k)) (omega (arith, put-fits (m .text) (omega arith) .size, ap (λ t. length (lineText n t)) z)) (m .stop ∙ ap (isLast n) z) (m .leaves ∙ ap (nextTree n) z)

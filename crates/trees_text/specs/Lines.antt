@@ -17,7 +17,7 @@ stops next = false
 stops last = true
 stops (refused number) = true
 
--- the line of the tree t stands at the start of the text, and the tree's buffer holds the next tree, or t where t is the last
+-- the line of the tree t is put at the start of the text, and the tree's buffer holds the next tree, or t where t is the last
 pub record LineMade (n : ℕ) (t after textBefore textAfter : List ℕ) (line : Line) : Type 0 where
   pub text : Put textBefore textAfter (lineText n t) 0 (line .length)
   pub stop : line .last ≡ isLast n t

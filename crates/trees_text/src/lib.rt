@@ -17,10 +17,10 @@ use writing::put_byte;
 use writing::put_decimal;
 use writing::put_hexes;
 
-// A line's length, and whether it is the last one.
-pub struct Line {
-    pub length: usize,
-    pub last: bool,
+// The length of a line that was put, and whether it is the last one.
+struct Line {
+    length: usize,
+    last: bool,
 }
 
 fn is_digit(b: u8) -> bool
@@ -67,12 +67,6 @@ pub fn size_in(input: &[u8]) -> usize
     0
 }
 
-fn number(symbol: u32) -> usize
-    ensures { λ r. ⌜ r ≡ symbol ⌝ }
-{
-    symbol as usize
-}
-
 // Puts the symbols, each behind a blank.
 fn put_symbols(out: &mut [u8], at: usize, symbols: &[u32]) -> usize
     ensures { λ r. ⌜ Put (now (out .entry)) (now (out .exit)) (symbolsText (now (symbols .entry)) (length (now (symbols .entry)))) at r ⌝ }
@@ -80,7 +74,7 @@ fn put_symbols(out: &mut [u8], at: usize, symbols: &[u32]) -> usize
     let mut end = at;
     for k in 0..symbols.len() {
         let mid = put_byte(out, end, b' ');
-        end = put_decimal(out, mid, number(symbols[k]));
+        end = put_decimal(out, mid, symbols[k] as usize);
     }
     end
 }
@@ -102,7 +96,7 @@ fn put_tree(out: &mut [u8], size: usize, tree: &[u8], symbols: &mut [u32]) -> us
     put_line(out, tree, symbols)
 }
 
-fn is_last(step: Step) -> bool
+fn stops(step: Step) -> bool
     ensures { λ r. ⌜ r ≡ stops (goingOf step) ⌝ }
 {
     match step {
@@ -125,12 +119,12 @@ fn make_line(size: usize, tree: &mut [u8], out: &mut [u8]) -> Line
 {
     let mut symbols = symbol_room();
     let length = put_tree(out, size, tree, &mut symbols[..size]);
-    let last = is_last(small_trees::next(size, tree));
+    let last = stops(small_trees::next(size, tree));
     Line { length, last }
 }
 
-// Puts the program's first line for a size, in a buffer of the tree's length: the line of the first tree, or `no size`.
-pub fn begin(size: usize, tree: &mut [u8], out: &mut [u8]) -> Line
+// Puts the program's first line for a size: the line of the first tree, or `no size` where that is refused.
+fn begin(size: usize, tree: &mut [u8], out: &mut [u8]) -> Line
     ensures { λ r. ⌜ Begun size (now (tree .entry)) (now (tree .exit)) (now (out .entry)) (now (out .exit)) r ⌝ }
 {
     let first = small_trees::first(size, tree);
@@ -150,26 +144,27 @@ fn tree_room() -> [u8; 25]
     [0; 25]
 }
 
+// Room for a line: three bytes in hexadecimal, and twelve numbers of any length with their blanks.
 fn line_room() -> [u8; 300]
     ensures { λ r. ⌜ 300 ≡ length r ⌝ }
 {
     [0; 300]
 }
 
-// Writes to standard output one line after the other, and answers how many bytes these are. What a call on a file descriptor writes is beyond a
+// Hands one line after the other to standard output, and answers how many bytes these are. What a call on a file descriptor writes is beyond a
 // contract.
 fn print_lines(size: usize, tree: &mut [u8], text: &mut [u8]) -> usize
     requires { ⌜ (length (now tree) ≡ treeLength size) × (300 ≤ length (now text)) ⌝ }
     ensures { λ r. ⌜ r ≡ length (sizeText size) ⌝ }
 {
     let mut line = begin(size, tree, text);
-    let mut written = 0;
+    let mut bytes = 0;
     loop {
         let n = line.length;
         io::write_all(STDOUT_FILENO, &text[..n]);
-        written += n;
+        bytes += n;
         if line.last {
-            return written;
+            return bytes;
         }
         line = make_line(size, tree, text);
     }

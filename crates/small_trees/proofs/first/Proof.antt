@@ -49,7 +49,7 @@ returns-3 c =
     let x = f .before .before in
     let a = s (d x) .args in
     let e = first-0 (a .size) (length (a .tree .now)) (size-in (d x)) (length-is x) in
-    record { answers = sym e; leaves = f .change .ensures ∙ changed-first (a .size) (a .tree .now) (length-is x) ∙ sym (first-written (a .size) (a .tree .now) e) }
+    record { answers = sym e; leaves = changed-first (a .size) (a .tree .now) (length-is x) (f .change .ensures) (omega arith) (omega arith) (omega arith) ∙ sym (first-written (a .size) (a .tree .now) e) }
 
 pub first-spec : {M : Type 1} → statement M
 first-spec = tie.close (tie.spec (λ c κs. tt) returns (λ c κs. tt) returns-2 change-requires (λ c. search needs) returns-3)

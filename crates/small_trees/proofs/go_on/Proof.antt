@@ -10,7 +10,6 @@ use Rattle.refusal.specs.Conditions.{bitOf}
 use Rattle.shape.proofs.Conditions.{tree-flaw}
 use Rattle.shape.proofs.Laws.{whole}
 use Rattle.small_trees.specs.Answers.{next, last}
-use Rattle.small_trees.specs.Steps.{changedTree}
 use Rattle.all_trees.specs.Claims.{IsBalanced}
 use Rattle.small_trees.proofs.Turning.{Passed, pass-start, pass-closing, pass-opening, turned-next, turned-written, last-none, last-kept}
 use Rattle.small_trees.proofs.go_on.Statement.{statement}
@@ -115,12 +114,10 @@ returns c =
     let d = f .before .before in
     let a = d .before .before in
     let e = is-opening (d .before) in
+    let h : k a + 2 * (o a + 1) < 2 * n a = omega (arith, d .if2 .taken) in
     record {
-      answers = sym (ap (λ b. cond b last next) (turned-next (n a) (t a) (T a) (P a) e (d .if2 .taken)));
-      leaves =
-          f .change .ensures
-          ∙ ap (λ u. changedTree u (k a) (k a + 1) (k a + 1 + (o a + 1))) (l a .loop .inv .kept)
-          ∙ turned-written (n a) (t a) (T a) (P a) e (d .if2 .taken);
+      answers = sym (ap (λ b. cond b last next) (turned-next (n a) (t a) (T a) (P a) e h));
+      leaves = turned-written (n a) (t a) (T a) (P a) e h (f .change .ensures) (l a .loop .inv .kept) (omega arith) (omega arith) (omega arith);
     }
 
 loop-less : tie.Need-loop-less Inv-loop μ-loop

@@ -40,7 +40,7 @@ returns c =
     let t = s .args .tree .now in
     record {
       text = p .put-tree .ensures;
-      stop = c .is-last .ensures ∙ ap stops (g .next .ensures .answers ∙ next-answered n t (s .pre)) ∙ stops-last (isLast n t);
+      stop = c .stops .ensures ∙ ap stops (g .next .ensures .answers ∙ next-answered n t (s .pre)) ∙ stops-last (isLast n t);
       leaves = g .next .ensures .leaves ∙ next-written n t (s .pre);
     }
 

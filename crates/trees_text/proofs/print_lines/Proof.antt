@@ -12,10 +12,10 @@ use Rattle.trees_text.proofs.print_lines.Statement.{statement}
 use Rattle.trees_text.proofs.print_lines.Tie as tie
 
 abbrev Inv-loop : tie.InvT-loop
-Inv-loop size tree₀ text₀ line₀ written₀ tree text line written = (length tree ≡ length tree₀) × (length text ≡ length text₀) × Running size written line tree
+Inv-loop size tree₀ text₀ line₀ bytes₀ tree text line bytes = (length tree ≡ length tree₀) × (length text ≡ length text₀) × Running size bytes line tree
 
 abbrev μ-loop : tie.MeasureT-loop
-μ-loop size tree₀ text₀ line₀ written₀ tree text line written = length (sizeText size) - written
+μ-loop size tree₀ text₀ line₀ bytes₀ tree text line bytes = length (sizeText size) - bytes
 
 loop-holds : tie.Need-loop-holds Inv-loop μ-loop
 loop-holds c =
@@ -43,8 +43,8 @@ slice-reshare-prefix-write-all c = fits c
 slice-aggregate-write-all : tie.Need-slice-aggregate-write-all Inv-loop μ-loop
 slice-aggregate-write-all c = let l = c .before in sym (length-take-le (l .loop .line .length) (l .loop .text) (fits l))
 
-add-written : tie.Need-add-written Inv-loop μ-loop
-add-written c = omega (arith, running-fits (c .before .before .loop .inv .2))
+add-bytes : tie.Need-add-bytes Inv-loop μ-loop
+add-bytes c = omega (arith, running-fits (c .before .before .loop .inv .2))
 
 returns : tie.Need-returns Inv-loop μ-loop
 returns c = running-ends (c .before .before .before .loop .inv .2) (c .if1 .taken)
@@ -78,7 +78,7 @@ print-lines-spec =
     slice-reshare-prefix-write-all
     slice-aggregate-write-all
     (λ c κs. tt)
-    add-written
+    add-bytes
     (λ c. tree-long (c .before .before .before))
     (λ c. text-long (c .before .before .before))
     returns

@@ -1,10 +1,9 @@
 -- `trees_text::put_symbols` meets its contract. The loop's invariant: the first k symbols are put, and end is behind them.
-use mathlib.Core.Path.{_≡_, refl, ap, _∙_}
+use mathlib.Core.Path.{_≡_, refl}
 use Prim.Native.Nat.{_-_, _≤_}
 use native.Mathlib.Omega.{arith}
-use lib.ListN.{length, getD}
+use lib.ListN.{length}
 use Rattle.writing.specs.Writing.{Put}
-use Rattle.writing.specs.Text.{decimal}
 use Rattle.writing.proofs.Writes.{put-none, put-then}
 use Rattle.trees_text.specs.Text.{symbolsText}
 use Rattle.trees_text.proofs.Lines.{symbols-more}
@@ -21,11 +20,14 @@ loop-holds : tie.Need-loop-holds Inv-loop μ-loop
 unfolding symbolsText
 loop-holds c = let a = c .before .before .args in (omega arith, refl, refl, put-none (a .out .now) (a .at))
 
-mul-number : tie.Need-mul-number Inv-loop μ-loop
-mul-number c = omega arith
+mul-put-decimal : tie.Need-mul-put-decimal Inv-loop μ-loop
+mul-put-decimal c = omega arith
 
-shared-slice-read-number : tie.Need-shared-slice-read-number Inv-loop μ-loop
-shared-slice-read-number c = omega arith
+shared-slice-read-put-decimal : tie.Need-shared-slice-read-put-decimal Inv-loop μ-loop
+shared-slice-read-put-decimal c = omega arith
+
+cast-put-decimal : tie.Need-cast-put-decimal Inv-loop μ-loop
+cast-put-decimal c = omega (arith, c .shared-slice-known2 .given (c .before .before .before .before .before .before .before .loop .k))
 
 add-k : tie.Need-add-k Inv-loop μ-loop
 add-k c = omega arith
@@ -36,11 +38,10 @@ loop-less c = omega arith
 loop-again : tie.Need-loop-again Inv-loop μ-loop
 loop-again c =
     let d = c .before .before in
-    let b = d .before .before .before .before .before .before in
+    let b = d .before .before .before .before .before in
     let l = b .before .before .before in
     let s = l .before .before .before .args .symbols .now in
-    let w = rw (d .before .number .ensures) at (d .put-decimal .ensures) in
-    (omega arith, refl, omega arith, rw (symbols-more s (l .loop .k)) (put-then (l .loop .inv .3) (put-then (b .put-byte .ensures) w)))
+    (omega arith, refl, omega arith, rw (symbols-more s (l .loop .k)) (put-then (l .loop .inv .3) (put-then (b .put-byte .ensures) (d .put-decimal .ensures))))
 
 same-length : tie.Need-same-length Inv-loop μ-loop
 same-length c = c .before .loop .inv .2
@@ -58,9 +59,9 @@ put-symbols-spec =
     μ-loop
     loop-holds
     (λ c κs. tt)
-    mul-number
-    shared-slice-read-number
-    (λ c κs. tt)
+    mul-put-decimal
+    shared-slice-read-put-decimal
+    cast-put-decimal
     (λ c κs. tt)
     add-k
     loop-less
