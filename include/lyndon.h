@@ -226,7 +226,7 @@ uint32_t lyndon_first_tree(size_t size, uint8_t *tree, size_t tree_length);
  * from the first tree and going on to the last reaches each tree of the size exactly once: 208,012 trees for size 12.
  *
  * Refusals, in the order in which they are tested: 14, 3, 6, 7, 8.
- * Memory: a refusal leaves the tree as it was, and so does the last tree. Otherwise every byte of it is written. */
+ * Memory: a refusal leaves the tree as it was, and so does the last tree. Otherwise it is the next tree at exit. */
 LyndonNextReply lyndon_next_tree(size_t size, uint8_t *tree, size_t tree_length);
 
 /* The longest Lyndon word that starts at `position`: it starts there, and its length is next[position] - position. The part is that
