@@ -77,9 +77,11 @@ extern "C" {
 /* The version of the archive. */
 uint32_t lyndon_version(void);
 
-/* The most letters of a string, bytes or symbols, and the most entries of a cabinet. */
+/* The most letters of a string, bytes or symbols, the most entries of a cabinet, and the greatest size whose trees lyndon_first_tree
+ * and lyndon_next_tree give. */
 #define LYNDON_MAX_LETTERS 1000000
 #define LYNDON_MAX_ENTRIES 64
+#define LYNDON_MAX_TREE_SIZE 12
 
 /* The length in bytes of the tree of n positions, ceil(n / 4), and of a cabinet file of so many entries, whose trees have so many
  * bytes in all. Of constants they are constants, so that they serve as sizes of arrays (but for n = 0, of which C has none); else

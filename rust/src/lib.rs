@@ -91,6 +91,9 @@ pub const MAX_LETTERS: usize = 1_000_000;
 /// The greatest number of entries that a cabinet has.
 pub const MAX_ENTRIES: usize = 64;
 
+/// The greatest size whose trees [`first_tree`], [`next_tree`] and [`all_trees`] give.
+pub const MAX_TREE_SIZE: usize = 12;
+
 /// Why an input is refused. Where several apply, the one with the lowest number is returned;
 /// [`cabinet_write`], [`cabinet_read`], [`first_tree_into`] and [`next_tree`] test in an order of their own,
 /// which is given there.
@@ -444,7 +447,8 @@ pub fn tree_string_into(n: usize, tree: &[u8], symbols: &mut [u32]) -> Result<()
 ///
 /// Refusal 14.
 pub fn first_tree(size: usize) -> Result<Vec<u8>, Refusal> {
-    let mut tree = vec![0; tree_length(lent_entries(size))];
+    // A greater size is refused whatever is lent, so no more memory is taken for it.
+    let mut tree = vec![0; tree_length(size.min(MAX_TREE_SIZE))];
     first_tree_into(size, &mut tree)?;
     Ok(tree)
 }

@@ -107,10 +107,12 @@ macro_rules! layout {
 #[test]
 fn the_constants_and_structures_are_those_of_the_wrapper() {
     let mut expected = format!(
-        "LYNDON_VERSION {}\nLYNDON_MAX_LETTERS {}\nLYNDON_MAX_ENTRIES {}\nLYNDON_NOT_REFUSED 0\n",
+        "LYNDON_VERSION {}\nLYNDON_MAX_LETTERS {}\nLYNDON_MAX_ENTRIES {}\nLYNDON_MAX_TREE_SIZE {}\n\
+        LYNDON_NOT_REFUSED 0\n",
         raw::VERSION,
         lyndon::MAX_LETTERS,
-        lyndon::MAX_ENTRIES
+        lyndon::MAX_ENTRIES,
+        lyndon::MAX_TREE_SIZE
     );
     for refusal in Refusal::ALL {
         writeln!(expected, "{} {}", c_name(refusal), refusal.number()).expect("a string");

@@ -13,6 +13,9 @@ const DIRECTORY: &str = "LYNDON_BIN_DIR";
 
 const PACKAGE: &str = env!("CARGO_MANIFEST_DIR");
 
+/// The numbers of trees of the sizes 1 to 12.
+const CATALAN_NUMBERS: [usize; 12] = [1, 2, 5, 14, 42, 132, 429, 1430, 4862, 16796, 58786, 208_012];
+
 /// The file of a program.
 fn path_of(program: &str) -> PathBuf {
     let directory = std::env::var_os(DIRECTORY).unwrap_or_else(|| "../target/bin".into());
@@ -148,17 +151,22 @@ fn trees_of_sizes_1_to_3() {
     assert_prints("trees", b"3", three.as_bytes());
 }
 
-/// Each size with two digits, and with one where it has one; alone, and with a byte 10 behind it.
+/// The inputs for a size: with two digits, and with one where it has one; alone, and with a byte 10 behind it.
+fn inputs_for(size: usize) -> Vec<String> {
+    let mut inputs = vec![format!("{size}"), format!("{size:02}")];
+    inputs.dedup();
+    let with_byte_10: Vec<String> = inputs.iter().map(|input| format!("{input}\n")).collect();
+    inputs.extend(with_byte_10);
+    inputs
+}
+
 #[test]
 fn trees_of_every_size() {
-    for size in 1..=12 {
+    for (size, number) in (1..).zip(CATALAN_NUMBERS) {
         let expected = small_trees::text(size.to_string().as_bytes());
-        assert!(expected.lines().count() > 1 || size == 1);
-        let mut inputs = vec![format!("{size}"), format!("{size:02}")];
-        inputs.dedup();
-        for input in inputs {
+        assert_eq!(expected.lines().count(), number, "lines for size {size}");
+        for input in inputs_for(size) {
             assert_prints("trees", input.as_bytes(), expected.as_bytes());
-            assert_prints("trees", (input + "\n").as_bytes(), expected.as_bytes());
         }
     }
 }
@@ -178,8 +186,10 @@ fn assert_no_size(input: &[u8]) {
 
 #[test]
 fn sizes_outside_1_to_12_are_no_size() {
-    for input in ["0", "00", "0\n", "00\n", "13", "13\n", "14", "20", "99"] {
-        assert_no_size(input.as_bytes());
+    for size in [0].into_iter().chain(13..=99) {
+        for input in inputs_for(size) {
+            assert_no_size(input.as_bytes());
+        }
     }
 }
 

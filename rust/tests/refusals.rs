@@ -533,6 +533,7 @@ fn refusals_have_their_numbers() {
     let numbers = Refusal::ALL.map(Refusal::number);
     assert_eq!(numbers, [1, 2, 3, 4, 5, 6, 7, 8, 9, 10, 11, 12, 13, 14]);
     assert_eq!(lyndon::MAX_LETTERS, LIMIT);
+    assert_eq!(lyndon::MAX_TREE_SIZE, 12);
     assert_eq!(
         Refusal::LeftOpen.to_string(),
         "refused 8: the tree leaves a bracket open"

@@ -91,9 +91,9 @@ mod tests {
     /// The bit strings that are balanced, sorted by their brackets.
     #[test]
     fn they_are_the_balanced_trees_sorted() {
-        for size in 1..=9 {
+        for size in 1..=11 {
             let mut sorted: Vec<_> = balanced_trees(size).collect();
-            sorted.sort_by_key(|tree| -> Vec<bool> {
+            sorted.sort_by_cached_key(|tree| -> Vec<bool> {
                 (0..2 * size).map(|k| !is_open(tree, k)).collect()
             });
             assert_eq!(in_order(size), sorted, "size {size}");
