@@ -10,21 +10,8 @@ use Rattle.writing.specs.Text.{places, decimal, hexes}
 use Rattle.tree_string.specs.TreeString.{order, numberIn, treeString}
 use Rattle.all_trees.specs.Trees.{chosen, treeOf, allBrackets, treesOf}
 use Rattle.small_trees.specs.Answers.{firstRefusal}
-use Rattle.trees_text.specs.Text.{sizeIn, symbolsText, lineOf, lineText, linesText, noSizeText, sizeText, programText}
-
--- `1`, `2` and a newline, `12`, `12` and a newline, `02`
-sizes :
-    sizeIn (49 ∷ []) ∷ sizeIn (50 ∷ 10 ∷ []) ∷ sizeIn (49 ∷ 50 ∷ []) ∷ sizeIn (49 ∷ 50 ∷ 10 ∷ []) ∷ sizeIn (48 ∷ 50 ∷ []) ∷ []
-    ≡ 1 ∷ 2 ∷ 12 ∷ 12 ∷ 2 ∷ []
-unfolding sizeIn
-sizes = refl
-
--- other input: none, a newline alone, `2` and two newlines, `2` and a carriage return, `002`, `12`, a newline and `X`
-others :
-    sizeIn [] ∷ sizeIn (10 ∷ []) ∷ sizeIn (50 ∷ 10 ∷ 10 ∷ []) ∷ sizeIn (50 ∷ 13 ∷ []) ∷ sizeIn (48 ∷ 48 ∷ 50 ∷ []) ∷ sizeIn (49 ∷ 50 ∷ 10 ∷ 88 ∷ []) ∷ []
-    ≡ 0 ∷ 0 ∷ 0 ∷ 0 ∷ 0 ∷ 0 ∷ []
-unfolding sizeIn
-others = refl
+use Rattle.tree_size.specs.Size.{sizeIn}
+use Rattle.trees_text.specs.Text.{symbolsText, lineOf, lineText, linesText, noSizeText, sizeText, programText}
 
 -- "For 2 it prints `03 0 1` and `05 1 0`."
 two : programText (50 ∷ []) ≡ 48 ∷ 51 ∷ 32 ∷ 48 ∷ 32 ∷ 49 ∷ 10 ∷ 48 ∷ 53 ∷ 32 ∷ 49 ∷ 32 ∷ 48 ∷ 10 ∷ []

@@ -1,7 +1,7 @@
 -- The claims of specs/Claims.antt, each proved.
 use mathlib.Core.Path.{_≡_, refl, sym, ap, ap₂, _∙_}
 use mathlib.Core.Bool.{Bool, true, false, true≢false}
-use mathlib.Core.List.{List, [], _∷_, _++_, append-assoc, append-nil}
+use mathlib.Core.List.{List, [], _++_, append-assoc, append-nil}
 use Prim.Native.Nat.{ℕ, zero, suc, _≤_, _<_}
 use native.Mathlib.Omega.{arith}
 use lib.ListN.{length, getD, take}
@@ -15,8 +15,9 @@ use Rattle.all_trees.proofs.Laws.{some-tree, next-is, last-ends, not-last-goes-
 use Rattle.small_trees.specs.Answers.{sizeOutside, firstRefusal}
 use Rattle.small_trees.proofs.Answering.{first-14, first-inside}
 use Rattle.small_trees.proofs.Laws.{goingOnReachesEach}
-use Rattle.trees_text.specs.Text.{sizeIn, lineText, linesText, noSizeText, sizeText, programText}
-use Rattle.trees_text.specs.Claims.{reachedText, TextIsOfGoingOn, OtherSizesAreNone, FourBytesTell, LinesAfter, none, line, Printed, LinesMadeAreTheText}
+use Rattle.tree_size.specs.Size.{sizeIn}
+use Rattle.trees_text.specs.Text.{lineText, linesText, noSizeText, sizeText, programText}
+use Rattle.trees_text.specs.Claims.{reachedText, TextIsOfGoingOn, OtherSizesAreNone, LinesAfter, none, line, Printed, LinesMadeAreTheText}
 use Rattle.trees_text.proofs.Lines.{listed-most, text-lines, text-none}
 
 -- up to any line
@@ -37,14 +38,6 @@ textIsOfGoingOn input buffer e l =
 pub otherSizesAreNone : OtherSizesAreNone
 unfolding programText
 otherSizesAreNone input e = let n = sizeIn input in text-none n (λ z. omega (arith, first-14 n (treeLength n) e))
-
-pub fourBytesTell : FourBytesTell
-unfolding sizeIn
-fourBytesTell [] = refl
-fourBytesTell (a ∷ []) = refl
-fourBytesTell (a ∷ b ∷ []) = refl
-fourBytesTell (a ∷ b ∷ c ∷ []) = refl
-fourBytesTell (a ∷ b ∷ c ∷ d ∷ input) = refl
 
 -- a text that was put into a buffer with room for it
 put-whole : {a b t : List ℕ} {z : ℕ} → Put a b t 0 z → length t ≤ length a → take z b ≡ t

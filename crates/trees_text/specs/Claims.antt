@@ -8,7 +8,8 @@ use Rattle.suffix.specs.Tree.{treeLength}
 use Rattle.all_trees.specs.Trees.{treesOf}
 use Rattle.small_trees.specs.Answers.{sizeOutside}
 use Rattle.small_trees.specs.Claims.{reached}
-use Rattle.trees_text.specs.Text.{sizeIn, lineText, noSizeText, sizeText, programText}
+use Rattle.tree_size.specs.Size.{sizeIn}
+use Rattle.trees_text.specs.Text.{lineText, noSizeText, sizeText, programText}
 use Rattle.trees_text.specs.Lines.{LineMade, Begun}
 use Rattle.trees_text.specs.declared.Line.{Line}
 
@@ -26,10 +27,6 @@ TextIsOfGoingOn =
 -- and the one line for a size outside 1 to 12
 abbrev pub OtherSizesAreNone : Type 0
 OtherSizesAreNone = (input : List ℕ) → sizeOutside (sizeIn input) ≡ true → programText input ≡ noSizeText
-
--- four bytes tell the size, so no more are read
-abbrev pub FourBytesTell : Type 0
-FourBytesTell = (input : List ℕ) → sizeIn (take 4 input) ≡ sizeIn input
 
 -- ---- of the functions that make the lines
 

@@ -1,8 +1,6 @@
--- Document 02, T-09: what the program reads, and what it prints, as bytes.
-use mathlib.Core.Bool.{Bool, cond, _&&_}
+-- Document 02, T-09: what the program prints, as bytes.
 use mathlib.Core.List.{List, [], _∷_, _++_}
-use Prim.Native.Nat.{ℕ, zero, suc, _+_, _-_, _*_}
-use lib.Dec.{eqb, leb}
+use Prim.Native.Nat.{ℕ, zero, suc}
 use lib.ListN.{length, getD}
 use Rattle.suffix.specs.Tree.{treeLength}
 use Rattle.refusal.specs.Numbers.{unlessRefused}
@@ -10,26 +8,7 @@ use Rattle.writing.specs.Text.{decimal, hexes}
 use Rattle.tree_string.specs.TreeString.{treeString}
 use Rattle.all_trees.specs.Trees.{treesOf}
 use Rattle.small_trees.specs.Answers.{firstRefusal}
-
--- ---- "reads a size .., one or two decimal digits and then at most one byte 10"
-
-abbrev pub isDigit : ℕ → Bool
-isDigit b = leb 48 b && leb b 57
-
--- the number of a digit, and of two; of other bytes 0, which no tree has for its size
-abbrev pub oneDigit : ℕ → ℕ
-oneDigit a = cond (isDigit a) (a - 48) 0
-
-abbrev pub twoDigits : ℕ → ℕ → ℕ
-twoDigits a b = cond (isDigit a && isDigit b) (10 * oneDigit a + oneDigit b) 0
-
--- the size that the input is, 0 for "Other input"
-unfoldable pub sizeIn : List ℕ → ℕ
-sizeIn [] = 0
-sizeIn (a ∷ []) = oneDigit a
-sizeIn (a ∷ b ∷ []) = cond (eqb b 10) (oneDigit a) (twoDigits a b)
-sizeIn (a ∷ b ∷ c ∷ []) = cond (eqb c 10) (twoDigits a b) 0
-sizeIn (a ∷ b ∷ c ∷ d ∷ others) = 0
+use Rattle.tree_size.specs.Size.{sizeIn}
 
 -- ---- "prints a line for each: the tree in lower-case hexadecimal, then its string from T-08 in decimal, with single blanks"
 

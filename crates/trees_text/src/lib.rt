@@ -5,13 +5,14 @@ ghost use lib.ListN.{length};
 ghost use Rattle.suffix.specs.Tree.{treeLength};
 ghost use Rattle.writing.specs.Writing.{Put};
 ghost use Rattle.small_trees.specs.Answers.{goingOf, nextRefusal};
-ghost use Rattle.trees_text.specs.Text.{isDigit, oneDigit, twoDigits, sizeIn, symbolsText, lineOf, lineText, sizeText, programText};
+ghost use Rattle.trees_text.specs.Text.{symbolsText, lineOf, lineText, sizeText, programText};
 ghost use Rattle.trees_text.specs.Lines.{stops, LineMade, Begun};
 use libc::STDIN_FILENO;
 use libc::STDOUT_FILENO;
 use refusal::Verdict;
 use small_trees::Step;
 use suffix::tree_length;
+use tree_size::size_in;
 use writing::put;
 use writing::put_byte;
 use writing::put_decimal;
@@ -21,50 +22,6 @@ use writing::put_hexes;
 struct Line {
     length: usize,
     last: bool,
-}
-
-fn is_digit(b: u8) -> bool
-    ensures { λ r. ⌜ r ≡ isDigit b ⌝ }
-{
-    b >= b'0' && b <= b'9'
-}
-
-fn one_digit(a: u8) -> usize
-    ensures { λ r. ⌜ r ≡ oneDigit a ⌝ }
-{
-    if is_digit(a) {
-        return (a - b'0') as usize;
-    }
-    0
-}
-
-fn two_digits(a: u8, b: u8) -> usize
-    ensures { λ r. ⌜ r ≡ twoDigits a b ⌝ }
-{
-    if is_digit(a) && is_digit(b) {
-        return 10 * one_digit(a) + one_digit(b);
-    }
-    0
-}
-
-// The size that the input is, 0 for other input.
-pub fn size_in(input: &[u8]) -> usize
-    ensures { λ r. ⌜ r ≡ sizeIn (now (input .entry)) ⌝ }
-{
-    let n = input.len();
-    if n == 1 {
-        return one_digit(input[0]);
-    }
-    if n == 2 {
-        if input[1] == 10 {
-            return one_digit(input[0]);
-        }
-        return two_digits(input[0], input[1]);
-    }
-    if n == 3 && input[2] == 10 {
-        return two_digits(input[0], input[1]);
-    }
-    0
 }
 
 // Puts the symbols, each behind a blank.

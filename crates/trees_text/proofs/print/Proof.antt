@@ -6,7 +6,7 @@ use lib.ListN.{length, take}
 use lib.Seq.{length-take-le}
 use borrow.Author.Needs.{needs}
 use Rattle.trees_text.specs.Text.{sizeText, programText}
-use Rattle.trees_text.proofs.Input.{size-most}
+use Rattle.tree_size.proofs.Input.{size-most}
 use Rattle.trees_text.proofs.print.Statement.{statement}
 use Rattle.trees_text.proofs.print.Tie as tie
 

@@ -1,7 +1,7 @@
--- `trees_text::is_digit` meets its contract.
+-- `tree_size::is_digit` meets its contract.
 use borrow.Author.Tests.{le-leb, lt-leb}
-use Rattle.trees_text.proofs.is_digit.Statement.{statement}
-use Rattle.trees_text.proofs.is_digit.Tie as tie
+use Rattle.tree_size.proofs.is_digit.Statement.{statement}
+use Rattle.tree_size.proofs.is_digit.Tie as tie
 
 returns : tie.Need-returns
 returns c = rw (le-leb 48 (c .before .args .b) (c .if1 .taken))

@@ -1,12 +1,12 @@
--- `trees_text::size_in` meets its contract.
+-- `tree_size::size_in` meets its contract.
 use mathlib.Core.Path.{_≡_, sym, _∙_}
 use mathlib.Core.Logic.{⊎-elim}
 use mathlib.Core.Bool.{true≢false}
 use borrow.Author.Needs.{needs}
 use borrow.Author.Tests.{eqb-true, eq-eqb}
-use Rattle.trees_text.proofs.Input.{size-1, size-2, size-2-end, size-3-end, size-none}
-use Rattle.trees_text.proofs.size_in.Statement.{statement}
-use Rattle.trees_text.proofs.size_in.Tie as tie
+use Rattle.tree_size.proofs.Input.{size-1, size-2, size-2-end, size-3-end, size-none}
+use Rattle.tree_size.proofs.size_in.Statement.{statement}
+use Rattle.tree_size.proofs.size_in.Tie as tie
 
 returns : tie.Need-returns
 returns c = c .one-digit .ensures ∙ sym (size-1 (c .before .before .before .before .args .input .now) (c .before .before .if1 .taken))

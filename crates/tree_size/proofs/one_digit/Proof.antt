@@ -1,10 +1,10 @@
--- `trees_text::one_digit` meets its contract.
+-- `tree_size::one_digit` meets its contract.
 use mathlib.Core.Path.{sym, _∙_}
 use native.Mathlib.Omega.{arith}
 use borrow.Author.Needs.{needs}
-use Rattle.trees_text.proofs.Input.{digit-low, one-is, one-none}
-use Rattle.trees_text.proofs.one_digit.Statement.{statement}
-use Rattle.trees_text.proofs.one_digit.Tie as tie
+use Rattle.tree_size.proofs.Input.{digit-low, one-is, one-none}
+use Rattle.tree_size.proofs.one_digit.Statement.{statement}
+use Rattle.tree_size.proofs.one_digit.Tie as tie
 
 sub-result : tie.Need-sub-result
 sub-result c = digit-low (c .before .before .args .a) (sym (c .before .is-digit .ensures) ∙ c .if1 .taken)

@@ -1,10 +1,10 @@
--- `trees_text::two_digits` meets its contract.
+-- `tree_size::two_digits` meets its contract.
 use mathlib.Core.Path.{_≡_, sym, _∙_}
 use mathlib.Core.Logic.{⊎-elim}
 use native.Mathlib.Omega.{arith}
-use Rattle.trees_text.proofs.Input.{one-most, two-are, two-none-first, two-none-second}
-use Rattle.trees_text.proofs.two_digits.Statement.{statement}
-use Rattle.trees_text.proofs.two_digits.Tie as tie
+use Rattle.tree_size.proofs.Input.{one-most, two-are, two-none-first, two-none-second}
+use Rattle.tree_size.proofs.two_digits.Statement.{statement}
+use Rattle.tree_size.proofs.two_digits.Tie as tie
 
 mul-result : tie.Need-mul-result
 mul-result c = omega (arith, c .one-digit .ensures, one-most (c .before .before .before .before .before .args .a))

@@ -9,7 +9,7 @@ use lib.Dec.{leb, eqb}
 use lib.ListN.{length, getD}
 use borrow.Author.Tests.{leb-true, eq-eqb, ne-eqb}
 use Rattle.suffix.proofs.Cases.{Test, holds, fails, test}
-use Rattle.trees_text.specs.Text.{isDigit, oneDigit, twoDigits, sizeIn}
+use Rattle.tree_size.specs.Size.{isDigit, oneDigit, twoDigits, sizeIn}
 
 both : (a b : Bool) → a && b ≡ true → (a ≡ true) × (b ≡ true)
 both true true e = (refl, refl)

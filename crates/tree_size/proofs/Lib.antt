@@ -1,0 +1,3 @@
+pub mod Input
+pub mod Laws
+pub mod Examples
