@@ -126,7 +126,7 @@ loop-less c = omega (arith, c .before .before .before .before .loop-test .taken)
 loop-again : tie.Need-loop-again Inv-loop μ-loop
 loop-again c =
     let a = c .before .before in
-    record { kept = l a .loop .inv .kept; passed = pass-opening (n a) (t a) (T a) (P a) (is-opening (c .before)) (c .if2 .left) }
+    record { kept = l a .loop .inv .kept; passed = pass-opening (n a) (t a) (T a) (P a) (is-opening (c .before)) (omega (arith, c .if2 .left)) }
 
 loop-less-2 : tie.Need-loop-less-2 Inv-loop μ-loop
 loop-less-2 c = omega (arith, c .before .before .before .loop-test .taken)
