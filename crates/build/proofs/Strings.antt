@@ -6,8 +6,8 @@ use mathlib.Core.List.{List}
 use Prim.Native.Nat.{ℕ, _≤_, _<_}
 use native.Mathlib.Omega.{arith}
 use lib.ListN.{length, getD}
-use Rattle.suffix.specs.Ranks.{rank, ranks, stringOf, greatestRank, oriented, orientedRank}
-use Rattle.suffix.proofs.Ranks.{ranks-length, ranks-entry, oriented-length, oriented-entry}
+use Rattle.ranks.specs.Ranks.{rank, ranks, stringOf, greatestRank, oriented, orientedRank}
+use Rattle.ranks.proofs.Ranks.{ranks-length, ranks-entry, oriented-length, oriented-entry}
 use Rattle.reuse.specs.Steps.{ScanReport}
 use Rattle.build.specs.States.{orientedString, Scanned}
 

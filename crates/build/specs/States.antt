@@ -5,8 +5,8 @@ use mathlib.Core.List.{List}
 use Prim.Native.Nat.{ℕ, _+_, _-_, _≤_, _<_}
 use lib.Dec.{ltb}
 use lib.ListN.{length}
-use Rattle.suffix.specs.Ranks.{stringOf, oriented}
 use Rattle.suffix.specs.Rows.{Tables}
+use Rattle.ranks.specs.Ranks.{stringOf, oriented}
 use Rattle.entries.specs.Cleared.{clearedFrom}
 use Rattle.reuse.specs.Steps.{Progress, BuildState, ScanReport, SettledPair, scan, settle}
 use Rattle.build.specs.declared.State.{State}

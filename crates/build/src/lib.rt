@@ -5,8 +5,8 @@ ghost use mathlib.Core.Bool.{false};
 ghost use mathlib.Core.List.{[]};
 ghost use Prim.Native.Nat.{_+_, _-_, _/_, _%_, _^_, _≤_, _<_};
 ghost use lib.ListN.{length, getD, set, take, replicate};
-ghost use Rattle.suffix.specs.Ranks.{ranks, stringOf, oriented, orientedRank};
 ghost use Rattle.suffix.specs.Tree.{treeLength, treeBytes};
+ghost use Rattle.ranks.specs.Ranks.{ranks, stringOf, oriented, orientedRank};
 ghost use Rattle.reuse.specs.Steps.{scanned, afterRows};
 ghost use Rattle.outcome.specs.Built.{tablesOf, lent, figuresOf, BuiltExactly, TablesBuilt};
 ghost use Rattle.build.specs.States.{orientedString, progressOf, reportOf, pairOf, unequalAt, Scanned, clearedTables, buildState, Safe, settledFrom};
@@ -14,9 +14,9 @@ use entries::clear_bytes;
 use entries::clear_tables;
 use outcome::Built;
 use outcome::answer;
+use ranks::orient;
+use ranks::rank;
 use refusal::Verdict;
-use suffix::orient;
-use suffix::rank;
 
 // The state of a build: reach c, shift d, the rows that are recorded, and the comparisons made that found two letters equal,
 // and unequal.
@@ -409,7 +409,7 @@ pub fn build(
         (lent (now (previous .exit)) (now (next .exit)) (now («previous_match» .exit)) (now («next_match» .exit)) (now (tree .exit)))
         (figuresOf r) ⌝ }
 {
-    let n = suffix::string_length(letters, symbols, wide);
+    let n = ranks::string_length(letters, symbols, wide);
     let verdict = refusal::build_verdict(
         n,
         rows,
@@ -459,7 +459,7 @@ pub fn build_tables(
         (tablesOf (now (previous .exit)) (now (next .exit)) (now («previous_match» .exit)) (now («next_match» .exit)))
         r ⌝ }
 {
-    let n = suffix::string_length(letters, symbols, wide);
+    let n = ranks::string_length(letters, symbols, wide);
     let verdict = refusal::tables_verdict(
         n,
         previous.len(),

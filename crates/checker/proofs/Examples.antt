@@ -3,11 +3,11 @@ use mathlib.Core.Path.{_≡_, refl}
 use mathlib.Core.List.{List, [], _∷_}
 use Prim.Native.Nat.{ℕ}
 use lib.ListN.{replicate}
-use Rattle.suffix.specs.Ranks.{rank, ranks}
 use Rattle.suffix.specs.Search.{leastFrom}
 use Rattle.suffix.specs.Order.{suffixLess, lexLess}
 use Rattle.suffix.specs.Nearest.{next}
 use Rattle.suffix.specs.Rows.{Tables}
+use Rattle.ranks.specs.Ranks.{rank, ranks}
 use Rattle.refusal.specs.Numbers.{firstOf, unlessRefused}
 use Rattle.outcome.specs.Built.{tablesOf}
 use Rattle.checker.specs.Checked.{isWrong, leastWrong, right, wrongAt, refused, foundAt, checkRefusal, finding}

@@ -2,7 +2,7 @@
 ghost use mathlib.Core.Path.{_≡_};
 ghost use Prim.Native.Nat.{_≤_};
 ghost use lib.ListN.{length};
-ghost use Rattle.suffix.specs.Ranks.{stringOf};
+ghost use Rattle.ranks.specs.Ranks.{stringOf};
 ghost use Rattle.refusal.specs.Numbers.{verdictNumber};
 ghost use Rattle.outcome.specs.Built.{tablesOf};
 ghost use Rattle.checker.specs.Checked.{findingOf, CheckedExactly};
@@ -80,7 +80,7 @@ pub fn check(
         (tablesOf (now (previous .exit)) (now (next .exit)) (now («previous_match» .exit)) (now («next_match» .exit)))
         (findingOf r) ⌝ }
 {
-    let n = suffix::string_length(letters, symbols, wide);
+    let n = ranks::string_length(letters, symbols, wide);
     // 1 comes before 2, and the build finds it
     if n <= 1000000 && claimed.len() != n {
         return Checked::Refused(Refusal::TableLength);

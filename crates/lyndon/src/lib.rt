@@ -1,6 +1,6 @@
 // The exported functions: each passes its arguments on to the crate that does the work.
 ghost use mathlib.Core.Path.{_≡_};
-ghost use Rattle.suffix.specs.Ranks.{ranks};
+ghost use Rattle.ranks.specs.Ranks.{ranks};
 ghost use Rattle.outcome.specs.Built.{tablesOf, lent, BuiltExactly};
 ghost use Rattle.checker.specs.Checked.{CheckedExactly};
 ghost use Rattle.brackets.specs.Answers.{ReadBack};

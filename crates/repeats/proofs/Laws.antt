@@ -7,10 +7,10 @@ use Prim.Native.Nat.{ℕ}
 use native.Mathlib.Omega.{arith}
 use lib.ListN.{length}
 use borrow.Author.Tests.{ltb-true, eq-eqb, ne-eqb}
-use Rattle.suffix.specs.Ranks.{rank, orientedFrom}
 use Rattle.suffix.specs.Search.{allBelow, anyBelow}
 use Rattle.suffix.specs.Order.{lcp, lce}
 use Rattle.suffix.specs.Periods.{hasPeriod}
+use Rattle.ranks.specs.Ranks.{rank, orientedFrom}
 use Rattle.refusal.specs.declared.Refusal.the-variants.{TooLong, TableLength, ListLengths, TooManyRuns}
 use Rattle.refusal.specs.Numbers.{numberIf, firstOf}
 use Rattle.refusal.specs.Conditions.{tooLong}

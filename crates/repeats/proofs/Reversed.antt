@@ -5,9 +5,9 @@ use mathlib.Core.List.{List}
 use Prim.Native.Nat.{ℕ, _+_, _≤_, _<_}
 use native.Mathlib.Omega.{arith}
 use lib.ListN.{length, getD}
-use Rattle.suffix.specs.Ranks.{orientedFrom}
-use Rattle.suffix.proofs.Ranks.{oriented-length, reversed-entry}
 use Rattle.suffix.proofs.Order.{extended, extended-in}
+use Rattle.ranks.specs.Ranks.{orientedFrom}
+use Rattle.ranks.proofs.Ranks.{oriented-length, reversed-entry}
 use Rattle.repeats.specs.Runs.{Run, IsRun}
 use Rattle.repeats.specs.Roots.{AtMost}
 use Rattle.repeats.proofs.Periods.{Ends}

@@ -9,11 +9,11 @@ use lib.ListN.{length}
 use Rattle.suffix.specs.Nearest.{next, nextMatch}
 use Rattle.suffix.specs.Lyndon.{longestLyndon}
 use Rattle.suffix.proofs.Cases.{Test, holds, fails, test}
-use Rattle.suffix.proofs.Ranks.{oriented-length}
 use Rattle.suffix.proofs.Edges.{NextAt}
 use Rattle.suffix.proofs.Order.{lce-match, lce-is}
 use Rattle.suffix.proofs.Nearest.{next-at, next-is, next-le, next-match-is}
 use Rattle.suffix.proofs.Laws.{longestIsNext}
+use Rattle.ranks.proofs.Ranks.{oriented-length}
 use Rattle.repeats.specs.Runs.{Run, IsRun}
 use Rattle.repeats.specs.Roots.{AtMost, IsRoot, Root, leftOf, reports, accepted, reported}
 use Rattle.repeats.proofs.Longest.{longest-lyndon, next-longest, longest-next}

@@ -5,7 +5,7 @@ use mathlib.Core.Bool.{Bool, true, false}
 use mathlib.Core.List.{List, [], _∷_, map}
 use Prim.Native.Nat.{ℕ, _-_, _≤_, _<_}
 use lib.ListN.{length}
-use Rattle.suffix.specs.Ranks.{ranks, orientedFrom}
+use Rattle.ranks.specs.Ranks.{ranks, orientedFrom}
 use Rattle.repeats.specs.Runs.{Run, IsRun, isRun}
 use Rattle.repeats.specs.Report.{Before, before, ListsRuns, runs}
 use Rattle.repeats.specs.Roots.{AtMost, IsRoot, Root, accepted, reported}

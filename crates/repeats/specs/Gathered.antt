@@ -4,8 +4,8 @@ use mathlib.Core.Bool.{true, false}
 use mathlib.Core.List.{List, [], _∷_}
 use Prim.Native.Nat.{ℕ, zero, suc}
 use lib.Dec.{eqb}
-use Rattle.suffix.specs.Ranks.{orientedFrom}
 use Rattle.suffix.specs.Nearest.{next, nextMatch}
+use Rattle.ranks.specs.Ranks.{orientedFrom}
 use Rattle.repeats.specs.Runs.{Run, noRun}
 use Rattle.repeats.specs.Report.{before}
 use Rattle.repeats.specs.Roots.{accepts, reports}

@@ -6,9 +6,9 @@ use mathlib.Core.List.{List}
 use Prim.Native.Nat.{ℕ, zero, suc, _+_, _-_, _≤_, _<_}
 use lib.Dec.{eqb, ltb, leb}
 use lib.ListN.{length, getD}
-use Rattle.suffix.specs.Ranks.{orientedFrom}
 use Rattle.suffix.specs.Nearest.{next, nextMatch}
 use Rattle.suffix.specs.Lyndon.{isLyndon, part, longestLyndon}
+use Rattle.ranks.specs.Ranks.{orientedFrom}
 use Rattle.repeats.specs.Runs.{Run}
 
 -- no rank is above top, from which the reverse order counts down

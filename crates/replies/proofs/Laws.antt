@@ -2,7 +2,7 @@
 use mathlib.Core.Path.{_≡_, ap}
 use mathlib.Core.List.{List}
 use Prim.Native.Nat.{ℕ}
-use Rattle.suffix.proofs.Laws.{unmaskedAreTheirRanks, sameLettersSameRanks}
+use Rattle.ranks.proofs.Laws.{unmaskedAreTheirRanks, sameLettersSameRanks}
 use Rattle.outcome.specs.Built.{answer, lentAtExit}
 use Rattle.checker.specs.Checked as checker
 use Rattle.repeats.specs.Answers as repeats

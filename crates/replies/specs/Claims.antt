@@ -3,9 +3,9 @@ use mathlib.Core.Path.{_≡_}
 use mathlib.Core.Bool.{true, false}
 use mathlib.Core.List.{List, []}
 use Prim.Native.Nat.{ℕ}
-use Rattle.suffix.specs.Ranks.{ranks, stringOf}
 use Rattle.suffix.specs.Rows.{Tables}
-use Rattle.suffix.specs.Claims.{Unmasked, SameLetters}
+use Rattle.ranks.specs.Ranks.{ranks, stringOf}
+use Rattle.ranks.specs.Claims.{Unmasked, SameLetters}
 use Rattle.outcome.specs.Built.{Lent, answer, lentAtExit}
 use Rattle.checker.specs.Checked as checker
 use Rattle.repeats.specs.Refusals.{Lists}

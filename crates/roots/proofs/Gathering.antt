@@ -7,15 +7,15 @@ use Prim.Native.Nat.{ℕ, suc, _+_, _≤_, _<_}
 use native.Mathlib.Omega.{arith}
 use native.Mathlib.Numerals.{add-one}
 use lib.ListN.{length, getD}
-use Rattle.suffix.specs.Ranks.{greatestRank, oriented}
 use Rattle.suffix.specs.Search.{tabulate}
 use Rattle.suffix.specs.Rows.{Tables}
 use Rattle.suffix.specs.Nearest.{next, nextMatch}
 use Rattle.suffix.proofs.Search.{tabulate-length, tabulate-entry}
-use Rattle.suffix.proofs.Ranks.{oriented-length}
 use Rattle.suffix.proofs.Nearest.{next-at, next-le, next-match-is}
 use Rattle.suffix.proofs.Order.{lce-match, agree-fits}
 use Rattle.suffix.proofs.Laws.{allRowsGiveAllEntries}
+use Rattle.ranks.specs.Ranks.{greatestRank, oriented}
+use Rattle.ranks.proofs.Ranks.{oriented-length}
 use Rattle.refusal.specs.declared.Verdict.{Verdict}
 use Rattle.outcome.specs.Built.{TablesBuilt}
 use Rattle.outcome.proofs.Alone.{Lengths, whole}

@@ -6,9 +6,9 @@ use mathlib.Core.List.{List, [], _∷_}
 use Prim.Native.Nat.{ℕ, zero, suc, _+_, _-_, _≤_, _<_}
 use lib.Dec.{ltb}
 use lib.ListN.{length, getD, set}
-use Rattle.suffix.specs.Ranks.{oriented}
 use Rattle.suffix.specs.Search.{tabulate}
 use Rattle.suffix.specs.Nearest.{next, nextMatch}
+use Rattle.ranks.specs.Ranks.{oriented}
 use Rattle.repeats.specs.Runs.{Run}
 use Rattle.repeats.specs.Report.{Before, before}
 use Rattle.repeats.specs.Roots.{leftOf, accepts}

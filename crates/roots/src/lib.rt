@@ -7,7 +7,7 @@ ghost use mathlib.Core.List.{[], _∷_};
 ghost use Prim.Native.Nat.{_+_, _-_, _≤_, _<_, min};
 ghost use lib.Dec.{eqb};
 ghost use lib.ListN.{length, getD};
-ghost use Rattle.suffix.specs.Ranks.{stringOf};
+ghost use Rattle.ranks.specs.Ranks.{stringOf};
 ghost use Rattle.repeats.specs.Report.{runs, before};
 ghost use Rattle.repeats.specs.Roots.{leftOf};
 ghost use Rattle.repeats.specs.Gathered.{reportOf};
@@ -44,7 +44,7 @@ fn same_at(letters: &[u8], symbols: &[u32], wide: bool, a: usize, b: usize) -> b
     if wide {
         return symbols[a] == symbols[b];
     }
-    suffix::same_rank(letters[a], letters[b])
+    ranks::same_rank(letters[a], letters[b])
 }
 
 // How many places before i agree with those before j, j - i + 1 of them at the most.
@@ -360,7 +360,7 @@ pub fn gather(
         (now (previous .exit) ∷ now (next .exit) ∷ now («previous_match» .exit) ∷ now («next_match» .exit) ∷ now («reverse_next» .exit) ∷ now («reverse_match» .exit) ∷ [])
         r ⌝ }
 {
-    let n = suffix::string_length(letters, symbols, wide);
+    let n = ranks::string_length(letters, symbols, wide);
     if n > 1000000 {
         return Answer::NoValue(Refusal::TooLong);
     }

@@ -3,7 +3,7 @@ ghost use mathlib.Core.Path.{_≡_};
 ghost use Prim.Native.Nat.{_≤_};
 ghost use lib.ListN.{length};
 ghost use Rattle.suffix.specs.Search.{tabulate};
-ghost use Rattle.suffix.specs.Ranks.{stringOf};
+ghost use Rattle.ranks.specs.Ranks.{stringOf};
 ghost use Rattle.refusal.specs.Answers.{figuresOf};
 ghost use Rattle.repeats.specs.Refusals.{lists};
 ghost use Rattle.repeats.specs.Answers.{zeros};
@@ -95,7 +95,7 @@ pub fn report(
         (lists (now (starts .exit)) (now (ends .exit)) (now (periods .exit)))
         (figuresOf r) ⌝ }
 {
-    let n = suffix::string_length(letters, symbols, wide);
+    let n = ranks::string_length(letters, symbols, wide);
     if n > 1000000 {
         return Answer::NoValue(Refusal::TooLong);
     }

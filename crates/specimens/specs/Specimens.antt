@@ -3,10 +3,10 @@ use mathlib.Core.Path.{_≡_}
 use mathlib.Core.List.{List, [], _∷_}
 use Prim.Native.Nat.{ℕ}
 use lib.ListN.{length, replicate}
-use Rattle.suffix.specs.Ranks.{ranks}
 use Rattle.suffix.specs.Search.{tabulate}
 use Rattle.suffix.specs.Tree.{treeLength}
 use Rattle.suffix.specs.Lyndon.{longestLyndon}
+use Rattle.ranks.specs.Ranks.{ranks}
 use Rattle.refusal.specs.Conditions.{readRefusal, wordRefusal}
 use Rattle.reuse.specs.Steps.{comparisons}
 use Rattle.outcome.specs.Built.{Figures, finished, halted, Lent, answer, lentAtExit}

@@ -12,11 +12,9 @@ use borrow.Author.Tests.{lt-ltb, le-ltb}
 use Rattle.suffix.specs.Order.{suffixLess, lce}
 use Rattle.suffix.specs.Nearest.{previous, next, previousMatch, nextMatch}
 use Rattle.suffix.specs.Rows.{previousAfter, nextAfter, previousMatchAfter, nextMatchAfter, tablesAfter}
-use Rattle.suffix.specs.Claims.{SmallRankAsCapitals, OthersKeepTheirValue, UnmaskedAreTheirRanks, SameLetterSameRank, SameLettersSameRanks, RanksAreCapitals, OrdersAgree, SuffixesAreOrdered, LettersDecide, IsPrevious, IsNext, PreviousIsGreatest, NextIsLeast, LargerBetween, PairsAreEdges, PairsDoNotCross, PreviousIsOnTheChain, NextIsOnTheChain, MatchesOfThree, AllRowsGiveAllEntries, RowsSettleTheirOwn, LongestIsNext, TestTellsPeriods, RotationsAreCycled, RotationsCompare, EqualRotationsRepeat, RepeatsSplit, SomeRotationIsSmallest, LongestWordIsLeastRepeat, SmallestRotationIsLyndon, RowsWriteTheTree, TreeHasTwoBitsARow}
+use Rattle.suffix.specs.Claims.{SuffixesAreOrdered, LettersDecide, IsPrevious, IsNext, PreviousIsGreatest, NextIsLeast, LargerBetween, PairsAreEdges, PairsDoNotCross, PreviousIsOnTheChain, NextIsOnTheChain, MatchesOfThree, AllRowsGiveAllEntries, RowsSettleTheirOwn, LongestIsNext, TestTellsPeriods, RotationsAreCycled, RotationsCompare, EqualRotationsRepeat, RepeatsSplit, SomeRotationIsSmallest, LongestWordIsLeastRepeat, SmallestRotationIsLyndon, RowsWriteTheTree, TreeHasTwoBitsARow}
 use Rattle.suffix.specs.Claims as claims
 use Rattle.suffix.proofs.Cases.{Tri, lt, eq, gt, tri, Same, same, other, same?, le-unless}
-use Rattle.suffix.proofs.Masking.{rank-other, small-as-capital, same-rank, rank-tells, unmasked-ranks, same-ranks, ranks-tell, ranks-capitals}
-use Rattle.suffix.proofs.BothOrders.{orders-agree}
 use Rattle.suffix.proofs.Search.{tabulate-same}
 use Rattle.suffix.proofs.Sequence.{Less, Match, agree-sym, agree-match, asym}
 use Rattle.suffix.proofs.Edges.{Edge, PreviousAt, NextAt, Chain, here, up, no-cross, prev-chain, edge-chain, chain-over, next-edge, edge-prev, edge-next, match-below, match-above, match-equal, match-edge, below-prev}
@@ -29,27 +27,6 @@ use Rattle.suffix.proofs.Periods.{period-told, tell-period}
 use Rattle.suffix.proofs.Rotations.{rotation-cycled, cycled-rotation, less-rotations, rotations-less}
 use Rattle.suffix.proofs.SmallestRotation.{equal-repeats, repeats-equal, splits, smallest-some, longest-repeats, alone-smallest}
 use Rattle.suffix.proofs.Written.{rows-write, tree-length}
-
-pub smallRankAsCapitals : SmallRankAsCapitals
-smallRankAsCapitals = small-as-capital
-
-pub othersKeepTheirValue : OthersKeepTheirValue
-othersKeepTheirValue = rank-other
-
-pub unmaskedAreTheirRanks : UnmaskedAreTheirRanks
-unmaskedAreTheirRanks = unmasked-ranks
-
-pub sameLetterSameRank : SameLetterSameRank
-sameLetterSameRank a b = (same-rank a b, rank-tells a b)
-
-pub sameLettersSameRanks : SameLettersSameRanks
-sameLettersSameRanks letters others = (same-ranks letters others, ranks-tell letters others)
-
-pub ranksAreCapitals : RanksAreCapitals
-ranksAreCapitals = ranks-capitals
-
-pub ordersAgree : OrdersAgree
-ordersAgree = orders-agree
 
 pub suffixesAreOrdered : SuffixesAreOrdered
 unfolding suffixLess

@@ -2,9 +2,6 @@ pub mod Tests
 pub mod Examples
 pub mod Cases
 pub mod Search
-pub mod Ranks
-pub mod Masking
-pub mod BothOrders
 pub mod Sequence
 pub mod Edges
 pub mod Order

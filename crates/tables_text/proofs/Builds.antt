@@ -6,14 +6,14 @@ use Prim.Native.Nat.{ℕ, zero, suc, _≤_, _<_}
 use native.Mathlib.Omega.{arith}
 use lib.ListN.{length, getD, take, length-append}
 use borrow.Author.Tests.{lt-ltb, le-ltb, eq-eqb}
-use Rattle.suffix.specs.Ranks.{ranks}
 use Rattle.suffix.specs.Search.{tabulate}
 use Rattle.suffix.specs.Nearest.{previous, next}
 use Rattle.suffix.specs.Tree.{treeBytes, treeLength, byteOf, treeAfter}
-use Rattle.suffix.proofs.Ranks.{ranks-length}
 use Rattle.suffix.proofs.Cases.{Same, same, other, same?}
 use Rattle.suffix.proofs.Search.{tabulate-length, tabulate-entry}
 use Rattle.suffix.proofs.Laws.{allRowsGiveAllEntries}
+use Rattle.ranks.specs.Ranks.{ranks}
+use Rattle.ranks.proofs.Ranks.{ranks-length}
 use Rattle.refusal.specs.Numbers.{lowest, lowestFrom}
 use Rattle.refusal.specs.Conditions.{buildRefusal}
 use Rattle.reuse.specs.Steps.{comparisons}

@@ -1,11 +1,11 @@
 -- The text of document 01 for the six bytes banana, by computation.
 use mathlib.Core.Path.{_≡_, refl}
 use mathlib.Core.List.{[], _∷_}
-use Rattle.suffix.specs.Ranks.{rank}
 use Rattle.suffix.specs.Search.{greatestBelow, leastFrom, sumBelow, tabulate, tabulateFrom}
 use Rattle.suffix.specs.Order.{lexLess, suffixLess}
 use Rattle.suffix.specs.Nearest.{previous, next}
 use Rattle.suffix.specs.Tree.{hanging, forestAfter, parentheses, byteOf, treeAfter, treeBytes}
+use Rattle.ranks.specs.Ranks.{rank}
 use Rattle.reuse.specs.Steps.{scan, scanFrom, reuse, settle, recordPrevious, recordNext, climb, advance, advances, stateOf, rowStart, row, start, afterRows}
 use Rattle.writing.specs.Text.{places, decimal, hexes}
 use Rattle.tables_text.specs.Text.{treeText, field, orDash, lineText, figure, headText, lines, tablesText, programText}

@@ -5,9 +5,9 @@ use mathlib.Core.List.{List, [], _∷_, _++_}
 use Prim.Native.Nat.{ℕ, zero, suc, _-_}
 use lib.Dec.{ltb, eqb}
 use lib.ListN.{length, take, drop}
-use Rattle.suffix.specs.Ranks.{ranks}
 use Rattle.suffix.specs.Nearest.{previous, next}
 use Rattle.suffix.specs.Tree.{treeBytes}
+use Rattle.ranks.specs.Ranks.{ranks}
 use Rattle.reuse.specs.Steps.{comparisons}
 use Rattle.writing.specs.Text.{decimal, hexes}
 

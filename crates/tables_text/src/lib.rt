@@ -10,7 +10,7 @@ use writing::put_hexes;
 ghost use mathlib.Core.Path.{_≡_};
 ghost use Prim.Native.Nat.{_≤_};
 ghost use lib.ListN.{length};
-ghost use Rattle.suffix.specs.Ranks.{ranks};
+ghost use Rattle.ranks.specs.Ranks.{ranks};
 ghost use Rattle.outcome.specs.Built.{figuresOf};
 ghost use Rattle.tables_text.specs.Text.{treeText, field, orDash, figure, lines, lineText, headText, tablesText, Rendered};
 ghost use Rattle.writing.specs.Writing.{Put};

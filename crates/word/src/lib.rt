@@ -4,8 +4,8 @@ ghost use mathlib.Core.Path.{_≡_};
 ghost use Prim.Native.Nat.{_<_};
 ghost use lib.Dec.{eqb, ltb};
 ghost use lib.ListN.{length, getD};
-ghost use Rattle.suffix.specs.Ranks.{ranks, stringOf};
 ghost use Rattle.suffix.specs.Lyndon.{longestLyndon};
+ghost use Rattle.ranks.specs.Ranks.{ranks, stringOf};
 ghost use Rattle.refusal.specs.Conditions.{wordRefusal};
 ghost use Rattle.word.specs.Word.{WordAnswered};
 use refusal::Refusal;
@@ -18,7 +18,7 @@ fn same_at(letters: &[u8], symbols: &[u32], wide: bool, a: usize, b: usize) -> b
     if wide {
         return symbols[a] == symbols[b];
     }
-    suffix::same_rank(letters[a], letters[b])
+    ranks::same_rank(letters[a], letters[b])
 }
 
 // Whether the rank at a is below that at b.
@@ -29,7 +29,7 @@ fn smaller_at(letters: &[u8], symbols: &[u32], wide: bool, a: usize, b: usize) -
     if wide {
         return symbols[a] < symbols[b];
     }
-    suffix::rank(letters[a]) < suffix::rank(letters[b])
+    ranks::rank(letters[a]) < ranks::rank(letters[b])
 }
 
 // The length of the longest Lyndon word at the front of a string, by Duval's plain search. The first j ranks repeat a Lyndon word of j - k of them:
@@ -38,7 +38,7 @@ fn longest_lyndon_prefix(letters: &[u8], symbols: &[u32], wide: bool) -> usize
     requires { ⌜ 0 < length (stringOf wide (now letters) (now symbols)) ⌝ }
     ensures { λ r. ⌜ r ≡ longestLyndon (stringOf wide (now (letters .entry)) (now (symbols .entry))) 0 ⌝ }
 {
-    let n = suffix::string_length(letters, symbols, wide);
+    let n = ranks::string_length(letters, symbols, wide);
     let mut k = 0;
     let mut j = 1;
     while j < n {

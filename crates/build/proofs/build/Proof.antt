@@ -5,9 +5,9 @@ use Prim.Native.Nat.{ℕ}
 use native.Mathlib.Omega.{arith}
 use lib.ListN.{length, replicate, length-replicate}
 use borrow.Author.Needs.{needs}
-use Rattle.suffix.specs.Ranks.{stringOf}
 use Rattle.suffix.specs.Tree.{treeLength, treeBytes}
 use Rattle.suffix.proofs.Bytes.{bytes-length}
+use Rattle.ranks.specs.Ranks.{stringOf}
 use Rattle.refusal.specs.Numbers.{verdictNumber}
 use Rattle.refusal.specs.Conditions.{buildRefusal}
 use Rattle.reuse.specs.Steps.{afterRows}

@@ -5,8 +5,8 @@ use Prim.Native.Nat.{ℕ}
 use native.Mathlib.Omega.{arith}
 use borrow.Author.Needs.{needs}
 use lib.ListN.{length}
-use Rattle.suffix.specs.Ranks.{stringOf}
 use Rattle.suffix.specs.Rows.{Tables}
+use Rattle.ranks.specs.Ranks.{stringOf}
 use Rattle.refusal.specs.Numbers.{verdictNumber}
 use Rattle.refusal.specs.Conditions.{tablesRefusal}
 use Rattle.refusal.proofs.Tables as verdict

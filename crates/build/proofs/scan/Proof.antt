@@ -1,5 +1,5 @@
 -- `build::scan` meets its contract.
-use Rattle.suffix.proofs.Ranks.{ranks-length}
+use Rattle.ranks.proofs.Ranks.{ranks-length}
 use Rattle.build.proofs.Strings.{of-symbols, of-letters}
 use Rattle.build.proofs.scan.Statement.{statement}
 use Rattle.build.proofs.scan.Tie as tie

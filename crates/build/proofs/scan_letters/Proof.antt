@@ -5,8 +5,8 @@ use mathlib.Core.List.{List}
 use Prim.Native.Nat.{ℕ, _+_, _-_, _≤_}
 use native.Mathlib.Omega.{arith}
 use lib.ListN.{getD}
-use Rattle.suffix.specs.Ranks.{rank, ranks, greatestRank, oriented, orientedRank}
-use Rattle.suffix.proofs.Ranks.{rank-byte}
+use Rattle.ranks.specs.Ranks.{rank, ranks, greatestRank, oriented, orientedRank}
+use Rattle.ranks.proofs.Ranks.{rank-byte}
 use Rattle.build.proofs.Strings.{oriented-other, letters-length, letters-entry}
 use Rattle.build.proofs.Settling.{Scanning, scan-starts, scan-ends, scan-goes, scan-stops}
 use Rattle.build.proofs.scan_letters.Statement.{statement}

@@ -5,7 +5,7 @@ use mathlib.Core.List.{List}
 use Prim.Native.Nat.{ℕ, _+_, _-_}
 use native.Mathlib.Omega.{arith}
 use lib.ListN.{getD}
-use Rattle.suffix.specs.Ranks.{oriented, orientedRank}
+use Rattle.ranks.specs.Ranks.{oriented, orientedRank}
 use Rattle.build.proofs.Strings.{oriented-other, symbols-length, symbols-entry}
 use Rattle.build.proofs.Settling.{Scanning, scan-starts, scan-ends, scan-goes, scan-stops}
 use Rattle.build.proofs.scan_symbols.Statement.{statement}

@@ -6,8 +6,8 @@ use Prim.Native.Nat.{ℕ}
 use native.Mathlib.Omega.{arith}
 use lib.ListN.{length}
 use borrow.Author.Needs.{needs}
-use Rattle.suffix.specs.Ranks.{stringOf}
 use Rattle.suffix.specs.Rows.{Tables}
+use Rattle.ranks.specs.Ranks.{stringOf}
 use Rattle.refusal.specs.Conditions.{tableLengthOff}
 use Rattle.outcome.specs.Built.{tablesOf, tablesRefusalOf}
 use Rattle.checker.specs.Checked.{checkRefusal}

@@ -1,6 +1,6 @@
 -- `lyndon::lyndon_word` meets its contract.
 use native.Mathlib.Omega.{arith}
-use Rattle.suffix.proofs.Ranks.{ranks-length}
+use Rattle.ranks.proofs.Ranks.{ranks-length}
 use Rattle.lyndon.proofs.Replying.{word-replied}
 use Rattle.lyndon.proofs.lyndon_word.Statement.{statement}
 use Rattle.lyndon.proofs.lyndon_word.Tie as tie

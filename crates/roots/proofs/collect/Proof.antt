@@ -5,9 +5,9 @@ use mathlib.Core.List.{List}
 use Prim.Native.Nat.{ℕ, _-_, _<_}
 use native.Mathlib.Omega.{arith}
 use lib.ListN.{length}
-use Rattle.suffix.specs.Ranks.{stringOf, greatestRank, oriented}
 use Rattle.suffix.specs.Nearest.{next, nextMatch}
-use Rattle.suffix.proofs.Ranks.{string-most}
+use Rattle.ranks.specs.Ranks.{stringOf, greatestRank, oriented}
+use Rattle.ranks.proofs.Ranks.{string-most}
 use Rattle.repeats.specs.Roots.{AtMost}
 use Rattle.repeats.specs.Gathered.{reportAt}
 use Rattle.repeats.specs.Refusals.{lists}

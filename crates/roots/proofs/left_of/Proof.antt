@@ -1,7 +1,7 @@
 -- `roots::left_of` meets its contract.
 use Prim.Native.Nat.{_-_}
 use native.Mathlib.Omega.{arith}
-use Rattle.suffix.specs.Ranks.{stringOf}
+use Rattle.ranks.specs.Ranks.{stringOf}
 use Rattle.roots.proofs.Scanning.{Agreeing, agree-none, agree-more, at-most, at-difference}
 use Rattle.roots.proofs.left_of.Statement.{statement}
 use Rattle.roots.proofs.left_of.Tie as tie

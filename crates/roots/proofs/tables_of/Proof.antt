@@ -2,9 +2,9 @@
 use mathlib.Core.Path.{sym, _∙_}
 use native.Mathlib.Omega.{arith}
 use borrow.Author.Needs.{needs}
-use Rattle.suffix.specs.Ranks.{stringOf, greatestRank}
+use Rattle.ranks.specs.Ranks.{stringOf, greatestRank}
 use Rattle.outcome.specs.Built.{tablesOf}
-use Rattle.suffix.proofs.Ranks.{oriented-length}
+use Rattle.ranks.proofs.Ranks.{oriented-length}
 use Rattle.roots.proofs.Gathering.{tabled}
 use Rattle.roots.proofs.tables_of.Statement.{statement}
 use Rattle.roots.proofs.tables_of.Tie as tie

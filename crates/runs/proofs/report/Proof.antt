@@ -4,7 +4,7 @@ use mathlib.Core.List.{List, map}
 use Prim.Native.Nat.{ℕ}
 use native.Mathlib.Omega.{arith}
 use lib.ListN.{length}
-use Rattle.suffix.specs.Ranks.{stringOf}
+use Rattle.ranks.specs.Ranks.{stringOf}
 use Rattle.repeats.specs.Refusals.{Lists, lengthsRefusal, lists}
 use Rattle.roots.specs.WorkTables.{workRefusal}
 use Rattle.roots.proofs.Refusing as roots

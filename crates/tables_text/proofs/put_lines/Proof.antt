@@ -4,10 +4,10 @@ use mathlib.Core.List.{List, _++_}
 use Prim.Native.Nat.{ℕ, _+_, _-_, _≤_, _<_}
 use native.Mathlib.Omega.{arith}
 use lib.ListN.{length}
-use Rattle.suffix.specs.Ranks.{ranks}
 use Rattle.suffix.specs.Nearest.{previous, next}
-use Rattle.suffix.proofs.Ranks.{ranks-length}
 use Rattle.suffix.proofs.Nearest.{next-at}
+use Rattle.ranks.specs.Ranks.{ranks}
+use Rattle.ranks.proofs.Ranks.{ranks-length}
 use Rattle.tables_text.specs.Text.{lines, lineText}
 use Rattle.writing.specs.Writing.{Put}
 use Rattle.writing.proofs.Writes.{put-none, put-length, put-then}

@@ -3,8 +3,8 @@ use mathlib.Core.Logic.{⊎-elim}
 use mathlib.Core.List.{List}
 use Prim.Native.Nat.{ℕ, _-_, _≤_}
 use native.Mathlib.Omega.{arith}
-use Rattle.suffix.specs.Ranks.{stringOf}
 use Rattle.suffix.proofs.Order.{extended}
+use Rattle.ranks.specs.Ranks.{stringOf}
 use Rattle.word.proofs.Duval.{Repeats, repeats-one, letter-equal, letter-greater, letter-smaller, string-ends}
 use Rattle.suffix.proofs.Tests.{tests}
 use Rattle.word.proofs.longest_lyndon_prefix.Statement.{statement}

@@ -2,9 +2,9 @@
 use Prim.Native.Nat.{ℕ}
 use native.Mathlib.Omega.{arith}
 use lib.ListN.{getD}
-use Rattle.suffix.specs.Ranks.{stringOf}
-use Rattle.suffix.proofs.Ranks.{AtSymbols, AtLetters, at-symbols, at-letters}
 use Rattle.suffix.proofs.Tests.{tests, smaller-test}
+use Rattle.ranks.specs.Ranks.{stringOf}
+use Rattle.ranks.proofs.Ranks.{AtSymbols, AtLetters, at-symbols, at-letters}
 use Rattle.word.proofs.smaller_at.Statement.{statement}
 use Rattle.word.proofs.smaller_at.Tie as tie
 

@@ -8,8 +8,8 @@ use lib.ListN.{length, take, drop}
 use lib.Seq.{length-take-le}
 use borrow.Author.Needs.{needs}
 use borrow.Rule.Slice.PartAt.{part-to-end}
-use Rattle.suffix.specs.Ranks.{ranks}
-use Rattle.suffix.proofs.Ranks.{ranks-length, ranks-drop}
+use Rattle.ranks.specs.Ranks.{ranks}
+use Rattle.ranks.proofs.Ranks.{ranks-length, ranks-drop}
 use Rattle.refusal.specs.Conditions.{wordRefusal}
 use Rattle.word.proofs.Laws as laws
 use Rattle.word.proofs.word.Statement.{statement}

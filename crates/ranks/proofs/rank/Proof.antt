@@ -1,9 +1,9 @@
--- `suffix::rank` meets its contract.
+-- `ranks::rank` meets its contract.
 use mathlib.Core.Logic.{inl, inr}
 use native.Mathlib.Omega.{arith}
-use Rattle.suffix.proofs.Masking.{rank-small, rank-other}
-use Rattle.suffix.proofs.rank.Statement.{statement}
-use Rattle.suffix.proofs.rank.Tie as tie
+use Rattle.ranks.proofs.Masking.{rank-small, rank-other}
+use Rattle.ranks.proofs.rank.Statement.{statement}
+use Rattle.ranks.proofs.rank.Tie as tie
 
 returns : tie.Need-returns
 returns c = omega (arith, rank-small (c .before .before .args .letter) (omega arith) (omega arith))

@@ -1,10 +1,10 @@
--- `suffix::same_rank` meets its contract.
+-- `ranks::same_rank` meets its contract.
 use mathlib.Core.Path.{sym, ap, ap₂}
 use lib.Dec.{eqb}
 use borrow.Author.Tests.{eq-eqb}
-use Rattle.suffix.specs.Ranks.{rank}
-use Rattle.suffix.proofs.same_rank.Statement.{statement}
-use Rattle.suffix.proofs.same_rank.Tie as tie
+use Rattle.ranks.specs.Ranks.{rank}
+use Rattle.ranks.proofs.same_rank.Statement.{statement}
+use Rattle.ranks.proofs.same_rank.Tie as tie
 
 returns : tie.Need-returns
 returns c = sym (eq-eqb _ _ (ap rank (c .if1 .taken)))

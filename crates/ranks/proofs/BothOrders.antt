@@ -7,17 +7,17 @@ use native.Mathlib.Omega.{arith}
 use lib.Dec.{ltb}
 use lib.ListN.{length, drop}
 use borrow.Author.Tests.{eq-eqb, ne-eqb, lt-ltb, le-ltb}
-use Rattle.suffix.specs.Ranks.{rank, ranks}
 use Rattle.suffix.specs.Search.{greatestBelow, leastFrom}
 use Rattle.suffix.specs.Order.{lexLess, lcp, suffixLess, lce}
 use Rattle.suffix.specs.Nearest.{previous, next}
 use Rattle.suffix.specs.Tree.{tree, hanging, forestAfter, treeAfter, treeBytes}
-use Rattle.suffix.specs.Claims.{NotBetween, NoneBetween, SameInBothOrders, OrdersAgree}
 use Rattle.suffix.proofs.Cases.{Tri, lt, eq, gt, tri, Same, same, other, same?}
-use Rattle.suffix.proofs.Ranks as ranking
-use Rattle.suffix.proofs.Ranks.{Ranked, ranked, ranks-length, ranks-drop}
-use Rattle.suffix.proofs.Masking.{unmasked-ranks}
 use Rattle.suffix.proofs.Hanging.{hanging-in, hanging-out}
+use Rattle.ranks.specs.Ranks.{rank, ranks}
+use Rattle.ranks.specs.Claims.{NotBetween, NoneBetween, SameInBothOrders, OrdersAgree}
+use Rattle.ranks.proofs.Ranks as ranking
+use Rattle.ranks.proofs.Ranks.{Ranked, ranked, ranks-length, ranks-drop}
+use Rattle.ranks.proofs.Masking.{unmasked-ranks}
 
 -- ---- two letters
 

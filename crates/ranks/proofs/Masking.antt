@@ -5,9 +5,9 @@ use mathlib.Core.List.{List, [], _∷_}
 use Prim.Native.Nat.{ℕ, suc, _+_, _-_, _≤_, _<_}
 use native.Mathlib.Omega.{arith}
 use lib.ListN.{length, getD}
-use Rattle.suffix.specs.Ranks.{rank, ranks}
-use Rattle.suffix.specs.Claims.{SmallRankAsCapitals, NotSmall, Unmasked, Masks, SameLetter, SameLetters, InCapitals}
-use Rattle.suffix.proofs.Ranks.{Ranked, small, other, ranked, ranks-length, ranks-entry}
+use Rattle.ranks.specs.Ranks.{rank, ranks}
+use Rattle.ranks.specs.Claims.{SmallRankAsCapitals, NotSmall, Unmasked, Masks, SameLetter, SameLetters, InCapitals}
+use Rattle.ranks.proofs.Ranks.{Ranked, small, other, ranked, ranks-length, ranks-entry}
 
 -- ---- one letter
 

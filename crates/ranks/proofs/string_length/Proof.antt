@@ -1,8 +1,8 @@
--- `suffix::string_length` meets its contract.
+-- `ranks::string_length` meets its contract.
 use native.Mathlib.Omega.{arith}
-use Rattle.suffix.proofs.Ranks.{symbols-long, letters-long}
-use Rattle.suffix.proofs.string_length.Statement.{statement}
-use Rattle.suffix.proofs.string_length.Tie as tie
+use Rattle.ranks.proofs.Ranks.{symbols-long, letters-long}
+use Rattle.ranks.proofs.string_length.Statement.{statement}
+use Rattle.ranks.proofs.string_length.Tie as tie
 
 returns : tie.Need-returns
 returns c = let g = c .before .args in omega (arith, symbols-long (g .wide) (g .letters .now) (g .symbols .now) (c .if1 .taken))

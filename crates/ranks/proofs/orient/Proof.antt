@@ -1,7 +1,7 @@
--- `suffix::orient` meets its contract.
+-- `ranks::orient` meets its contract.
 use native.Mathlib.Omega.{arith}
-use Rattle.suffix.proofs.orient.Statement.{statement}
-use Rattle.suffix.proofs.orient.Tie as tie
+use Rattle.ranks.proofs.orient.Statement.{statement}
+use Rattle.ranks.proofs.orient.Tie as tie
 
 returns : tie.Need-returns
 returns c = rw (c .if1 .taken) (omega arith)

@@ -7,9 +7,9 @@ use Prim.Native.Nat.{ℕ, zero, suc, _+_, _-_, _≤_, _<_}
 use native.Mathlib.Omega.{arith}
 use lib.ListN.{length, getD, drop, length-map}
 use borrow.Author.Tests.{le-leb, lt-leb}
-use Rattle.suffix.specs.Ranks.{rank, ranks, stringOf, greatestRank, orientedFrom, oriented, orientedRank}
-use Rattle.suffix.specs.Claims.{NotSmall}
 use Rattle.suffix.proofs.Cases.{Tri, lt, eq, gt, tri}
+use Rattle.ranks.specs.Ranks.{rank, ranks, stringOf, greatestRank, orientedFrom, oriented, orientedRank}
+use Rattle.ranks.specs.Claims.{NotSmall}
 
 -- by computation, on both sides of each bound
 bounds : ranks (64 ∷ 65 ∷ 90 ∷ 91 ∷ 96 ∷ 97 ∷ 98 ∷ 121 ∷ 122 ∷ 123 ∷ 255 ∷ []) ≡ 64 ∷ 65 ∷ 90 ∷ 91 ∷ 96 ∷ 65 ∷ 66 ∷ 89 ∷ 90 ∷ 123 ∷ 255 ∷ []

@@ -1,0 +1,4 @@
+pub mod Ranks
+pub mod Masking
+pub mod BothOrders
+pub mod Laws
