@@ -1,5 +1,5 @@
 -- A run is put into three tables, as the code does it.
-use mathlib.Core.Path.{_≡_, refl, sym, _∙_}
+use mathlib.Core.Path.{_≡_, refl, sym, ap, _∙_}
 use mathlib.Core.Logic.{_≢_}
 use mathlib.Core.Bool.{Bool, true, false, or-false, not, _&&_}
 use Prim.Native.Nat.{ℕ, zero, suc, _+_, _-_, _≤_, _<_}
@@ -74,22 +74,22 @@ pub placing-none : (c : ℕ) (r : Run) (t : Lists) → Placing c c r t t
 placing-none c r t = record { most = omega arith; is = refl; starts = refl; ends = refl; periods = refl }
 
 module _ {c j : ℕ} {r : Run} {t₀ t : Lists} (P : Placing c j r t₀ t) {b : Bool} (p : b ≡ passes t j r) where
-  pub placing-more : b ≡ true → Placing c (j - 1) r t₀ (stored t j (entryIn t (j - 1)))
-  placing-more v =
-      let q : Run = entryIn t (j - 1) in
+  pub placing-more : b ≡ true → {k : ℕ} → k ≡ j → Placing c (j - 1) r t₀ (stored t k (entryIn t (k - 1)))
+  placing-more v {k} e =
+      let q : Run = entryIn t (k - 1) in
       record {
         most = omega (arith, P .most);
-        is = sym (placed-below r j t (sym p ∙ v)) ∙ P .is;
-        starts = length-set (t .starts) j (q .start) ∙ P .starts;
-        ends = length-set (t .ends) j (q .end) ∙ P .ends;
-        periods = length-set (t .periods) j (q .period) ∙ P .periods;
+        is = ap (λ i. placed (j - 1) (stored t i (entryIn t (i - 1))) r) e ∙ sym (placed-below r j t (sym p ∙ v)) ∙ P .is;
+        starts = length-set (t .starts) k (q .start) ∙ P .starts;
+        ends = length-set (t .ends) k (q .end) ∙ P .ends;
+        periods = length-set (t .periods) k (q .period) ∙ P .periods;
       }
 
-  pub placing-done : b ≡ false → stored t j r ≡ placed c t₀ r
-  placing-done v = sym (placed-here r j t (sym p ∙ v)) ∙ P .is
+  pub placing-done : b ≡ false → {k : ℕ} → k ≡ j → stored t k r ≡ placed c t₀ r
+  placing-done v e = ap (λ k. stored t k r) e ∙ sym (placed-here r j t (sym p ∙ v)) ∙ P .is
 
-pub placing-has : {c j : ℕ} {r : Run} {t₀ t : Lists} → Placing c j r t₀ t → Has t₀ c → Has t j
-placing-has P H = record { starts = omega arith; ends = omega arith; periods = omega arith }
+pub placing-has : {c j : ℕ} {r : Run} {t₀ t : Lists} → Placing c j r t₀ t → Has t₀ c → {k : ℕ} → k ≡ j → Has t k
+placing-has P H e = record { starts = omega arith; ends = omega arith; periods = omega arith }
 
 -- ---- whether it is taken
 
@@ -127,9 +127,9 @@ module _ (t : Lists) (c : ℕ) (r : Run) where
         let e = both-true b p (s .1) in
         record { starts = ltb-true _ _ (s .0); ends = ltb-true _ _ (e .0); periods = ltb-true _ _ (e .1) }
 
-    pub taken : b ≡ true → Inserted c r t (placed c t r) (c + 1)
+    pub taken : b ≡ true → {d : ℕ} → d ≡ c + 1 → Inserted c r t (placed c t r) d
     unfolding listsWith countWith
-    taken v = let i : isTaken t c r ≡ true = sym k ∙ v in record { leaves = rw (i, listsWith); answers = rw (i, countWith) (add-one c) }
+    taken v e = let i : isTaken t c r ≡ true = sym k ∙ v in record { leaves = rw (i, listsWith); answers = rw (i, countWith) (e ∙ add-one c) }
 
     pub not-taken : b ≡ false → Inserted c r t t c
     unfolding listsWith countWith

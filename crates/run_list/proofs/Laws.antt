@@ -22,7 +22,7 @@ orderIsKept c r t u d H I E = go (same? (r .period) 0)
         let b : d ≡ c = E .answers ∙ sym (X .answers) in
         rw (a, b) (put-nothing c r t e)
     go (other e) =
-        let X = taken t c r (sym (has-taken t c r e H)) refl in
+        let X = taken t c r (sym (has-taken t c r e H)) refl refl in
         let a : u ≡ placed c t r = E .leaves ∙ sym (X .leaves) in
         let b : d ≡ c + 1 = E .answers ∙ sym (X .answers) in
         rw (a, b) (placed-put H e (I e))

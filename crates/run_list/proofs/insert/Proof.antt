@@ -30,7 +30,7 @@ returns c =
     let p = c .before .before .before .before .before .before in
     let u = p .before .before .before .before in
     let s = start (u .before) in
-    rw (p .place .ensures) (taken (lent s) (s .args .count) (runOf (s .args .run)) (u .before .is-taken .ensures) (u .if1 .taken))
+    rw (p .place .ensures) (taken (lent s) (s .args .count) (runOf (s .args .run)) (u .before .is-taken .ensures) (u .if1 .taken) (omega arith))
 
 returns-2 : tie.Need-returns-2
 returns-2 c =

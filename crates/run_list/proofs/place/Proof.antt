@@ -1,6 +1,6 @@
 -- `run_list::place` meets its contract.
-use mathlib.Core.Path.{_∙_}
-use Prim.Native.Nat.{_<_}
+use mathlib.Core.Path.{_≡_, _∙_}
+use Prim.Native.Nat.{ℕ, _<_}
 use native.Mathlib.Omega.{arith}
 use Rattle.repeats.specs.Refusals.{Lists, lists}
 use Rattle.run_list.specs.Entries.{runOf, Has}
@@ -25,7 +25,7 @@ start h = h .before .before .before .before
 abbrev moved : tie.At-loop Inv-loop μ-loop → Lists
 moved h = lists (h .loop .starts) (h .loop .ends) (h .loop .periods)
 
-has : (h : tie.At-loop Inv-loop μ-loop) → Has (moved h) (h .loop .j)
+has : (h : tie.At-loop Inv-loop μ-loop) {k : ℕ} → k ≡ h .loop .j → Has (moved h) k
 has h = placing-has (h .loop .inv) (start h .pre)
 
 -- the entry before place j is passed
@@ -38,13 +38,13 @@ loop-again : tie.Need-loop-again Inv-loop μ-loop
 loop-again c =
     let u = c .before .before .before .before .before .before .before .before .before .before in
     let h = head (u .before) in
-    rw (c .before .before .before .before .before .before .move-up .ensures) (placing-more (h .loop .inv) (u .before .is-passed .ensures) (u .if1 .taken))
+    rw (c .before .before .before .before .before .before .move-up .ensures) (placing-more (h .loop .inv) (u .before .is-passed .ensures) (u .if1 .taken) (omega arith))
 
 returns : tie.Need-returns Inv-loop μ-loop
 returns c =
     let e = c .before .before .before .before .before .before .before .before .before .before in
     let h = head (e .before) in
-    rw (c .before .before .before .before .before .before .store .ensures) (placing-done (h .loop .inv) (e .before .is-passed .ensures) (e .if1 .left))
+    rw (c .before .before .before .before .before .before .store .ensures) (placing-done (h .loop .inv) (e .before .is-passed .ensures) (e .if1 .left) (omega arith))
 
 pub place-spec : {M : Type 1} → statement M
 place-spec =
@@ -53,12 +53,12 @@ place-spec =
     Inv-loop
     μ-loop
     (λ c. placing-none _ _ _)
-    (λ c κs. has (c .before .before .before))
-    (λ c κs. let u = c .before .before .before in (has (head (u .before)), some u))
+    (λ c κs. has (c .before .before .before) (omega arith))
+    (λ c κs. let u = c .before .before .before in (has (head (u .before)) (omega arith), omega (arith, some u)))
     (λ c. some (c .before .before .before .before .before .before .before .before .before .before))
     (λ c. let u = c .before .before .before .before .before .before .before .before .before .before in omega (arith, some u))
     loop-again
-    (λ c κs. has (c .before .before .before .before .before .before .before .before))
+    (λ c κs. has (c .before .before .before .before .before .before .before .before) (omega arith))
     (λ c. c .before .before .before .before .before .starts2 .given ∙ c .before .before .before .before .before .before .before .before .before .before .before .before .before .before .before .loop .inv .starts)
     (λ c. c .before .before .before .ends2 .given ∙ c .before .before .before .before .before .before .before .before .before .before .before .before .before .before .before .loop .inv .ends)
     (λ c. c .before .periods2 .given ∙ c .before .before .before .before .before .before .before .before .before .before .before .before .before .before .before .loop .inv .periods)
