@@ -1,13 +1,9 @@
 -- The claim of specs/Claims.antt.
 use mathlib.Core.Path.{_≡_, refl, sym, _∙_}
-use mathlib.Core.Logic.{_≢_}
-use Prim.Native.Nat.{ℕ, _+_}
+use Prim.Native.Nat.{_+_}
 use Rattle.suffix.proofs.Cases.{Same, same, other, same?}
-use Rattle.repeats.specs.Runs.{Run}
-use Rattle.repeats.specs.Refusals.{Lists}
-use Rattle.run_list.specs.Entries.{Has}
-use Rattle.run_list.specs.Inserted.{placed, Inserted}
-use Rattle.run_list.specs.Claims.{Insertable, Put}
+use Rattle.run_list.specs.Inserted.{placed}
+use Rattle.run_list.specs.Claims.{Put}
 use Rattle.run_list.specs.Claims as claims
 use Rattle.run_list.proofs.Inserting.{no-run, has-taken, taken, not-taken}
 use Rattle.run_list.proofs.Shifting.{placed-put, put-nothing}
