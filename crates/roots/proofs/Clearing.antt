@@ -12,8 +12,9 @@ use Rattle.entries.proofs.Clearing.{cleared-length, cleared-alike, cleared-get,
 use Rattle.repeats.specs.Runs.{Run, noRun}
 use Rattle.repeats.specs.Refusals.{Lists, lists}
 use Rattle.repeats.specs.Answers.{entryOf, listsOf}
-use Rattle.roots.specs.States.{entryIn, entriesFrom, entries, cleared, Listed}
-use Rattle.roots.proofs.Inserting.{entries-count}
+use Rattle.run_list.specs.Entries.{entryIn, entriesFrom, entries}
+use Rattle.run_list.proofs.Entries.{entries-count}
+use Rattle.roots.specs.States.{cleared, Listed}
 
 pub three-cleared : (t : Lists) {k a b c : ℕ} {s e p : List ℕ} {v w x : ℕ} → s ≡ clearedFrom a v (t .starts) → e ≡ clearedFrom b w (t .ends) → p ≡ clearedFrom c x (t .periods)
     → (a ≡ k) × (b ≡ k) × (c ≡ k) → (v ≡ 0) × (w ≡ 0) × (x ≡ 0) → lists s e p ≡ cleared k t

@@ -25,8 +25,12 @@ use Rattle.repeats.specs.Roots.{AtMost}
 use Rattle.repeats.specs.Gathered.{reportOf, reportAt, put, gathered}
 use Rattle.repeats.specs.Refusals.{Lists}
 use Rattle.repeats.proofs.Gathering.{Holds, Gathers, puts, leaves, gathers-how, gathered-holds, gathered-is, gathered-few, fresh}
-use Rattle.roots.specs.States.{entryIn, entriesFrom, entries, Has, Within, Insertable, Put, Tabled}
-use Rattle.roots.proofs.Inserting.{entries-count, entry-mem, entries-ordered}
+use Rattle.run_list.specs.Entries.{entryIn, entriesFrom, entries, Has}
+use Rattle.run_list.specs.Inserted.{Inserted}
+use Rattle.run_list.specs.Claims.{Insertable, Put}
+use Rattle.run_list.proofs.Entries.{entries-count, entry-mem, entries-ordered}
+use Rattle.run_list.proofs.Laws.{orderIsKept}
+use Rattle.roots.specs.States.{Within, Tabled}
 
 -- next and its match lie in the string, under either order
 pub within-next : (y : List ℕ) (o : Bool) (i : ℕ) → i < length y → {j : ℕ} → j ≡ next (oriented o y) i → {m : ℕ} → m ≡ nextMatch (oriented o y) i → Within (length y) i j m
@@ -78,10 +82,10 @@ gathering-none T a b =
     record { most = omega arith; few = omega arith; holds = refl; starts = a; ends = b; periods = nexts-length T; next = λ k h w. next-entry T k w }
 
 module _ {y : List ℕ} (B : AtMost greatestRank y) {i c : ℕ} {t : Lists} (G : Gathering y i c t) (h : i < length y) where
-  pub gathering-has : Has t c
+  gathering-has : Has t c
   gathering-has = record { starts = omega arith; ends = omega arith; periods = omega arith }
 
-  pub insertable : (r : Run) → r ≡ reportAt greatestRank y i → r .period ≢ 0 → Insertable t c r
+  insertable : (r : Run) → r ≡ reportAt greatestRank y i → r .period ≢ 0 → Insertable t c r
   insertable r e ne = rw e (go (gathers-how greatestRank y i) (rw e at ne))
     where
       H : Holds greatestRank y i (gathered greatestRank y i)
@@ -95,10 +99,10 @@ module _ {y : List ℕ} (B : AtMost greatestRank y) {i c : ℕ} {t : Lists} (G :
           record { ordered = ordered; fresh = λ k v. rw w (fresh B H o ok (entryIn t k) (rw (G .holds) at (entry-mem t 0 c k (omega arith) (omega arith)))) }
       go (leaves a b w) n = absurd (n (ap (λ (v : Run). v .period) w))
 
-  pub gathering-more : (r : Run) → r ≡ reportAt greatestRank y i → (u : Lists) (d : ℕ) → Put c r t u d → length (u .starts) ≡ length (t .starts) → length (u .ends) ≡ length (t .ends) → length (u .periods) ≡ length (t .periods)
+  pub gathering-more : (r : Run) → r ≡ reportAt greatestRank y i → (u : Lists) (d : ℕ) → Inserted c r t u d → length (u .starts) ≡ length (t .starts) → length (u .ends) ≡ length (t .ends) → length (u .periods) ≡ length (t .periods)
       → Gathering y (i + 1) d u
   unfolding gathered
-  gathering-more r e u d P a b g =
+  gathering-more r e u d E a b g =
       rw (add-one i)
       (record {
         most = omega arith;
@@ -110,6 +114,9 @@ module _ {y : List ℕ} (B : AtMost greatestRank y) {i c : ℕ} {t : Lists} (G :
         next = λ k v w. P .keeps k (omega arith) ∙ G .next k (omega arith) w;
       })
     where
+      P : Put c r t u d
+      P = orderIsKept c r t u d gathering-has (insertable r e) E
+
       holds : entries u d ≡ gathered greatestRank y (suc i)
       holds = P .holds ∙ ap (put r) (G .holds) ∙ ap (λ q. put q (gathered greatestRank y i)) e
 

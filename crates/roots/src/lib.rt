@@ -1,29 +1,24 @@
 // The runs to which the Lyndon roots of both orders lead, gathered in order: document 02, T-03. A string is of letters, or where `wide` is true of
 // symbols (T-07); the slice that it is not of is not read.
 ghost use mathlib.Core.Path.{_≡_};
-ghost use mathlib.Core.Logic.{_≢_};
 ghost use mathlib.Core.Bool.{true, false};
 ghost use mathlib.Core.List.{[], _∷_};
 ghost use Prim.Native.Nat.{_+_, _-_, _≤_, _<_, min};
 ghost use lib.Dec.{eqb};
 ghost use lib.ListN.{length, getD};
 ghost use Rattle.ranks.specs.Ranks.{stringOf};
-ghost use Rattle.repeats.specs.Report.{runs, before};
+ghost use Rattle.repeats.specs.Report.{runs};
 ghost use Rattle.repeats.specs.Roots.{leftOf};
 ghost use Rattle.repeats.specs.Gathered.{reportOf};
 ghost use Rattle.repeats.specs.Refusals.{workLengthOff, lists};
+ghost use Rattle.run_list.specs.Entries.{runOf};
 ghost use Rattle.roots.specs.WorkTables.{Gathered};
-ghost use Rattle.roots.specs.States.{runOf, entryIn, stored, Has, passes, Within, Judged, Insertable, Put, Tabled, cleared, Listed};
+ghost use Rattle.roots.specs.States.{Within, Judged, Tabled, cleared, Listed};
 use entries::clear_from;
 use refusal::Answer;
 use refusal::Refusal;
-
-// A run, or 0 three times for none.
-struct Run {
-    start: u32,
-    end: u32,
-    period: u32,
-}
+use run_list::Run;
+use run_list::insert;
 
 // The lesser of i and j - i + 1.
 fn most_left(i: usize, j: usize) -> usize
@@ -132,91 +127,6 @@ fn report_of(
         end: 0,
         period: 0,
     }
-}
-
-// Entry k.
-fn load(starts: &[u32], ends: &[u32], periods: &[u32], k: usize) -> Run
-    requires { ⌜ Has (lists (now starts) (now ends) (now periods)) k ⌝ }
-    ensures { λ r. ⌜ runOf r ≡ entryIn (lists (now (starts .entry)) (now (ends .entry)) (now (periods .entry))) k ⌝ }
-{
-    Run {
-        start: starts[k],
-        end: ends[k],
-        period: periods[k],
-    }
-}
-
-fn store(starts: &mut [u32], ends: &mut [u32], periods: &mut [u32], k: usize, run: Run)
-    requires { ⌜ Has (lists (now starts) (now ends) (now periods)) k ⌝ }
-    ensures { λ _.
-        ⌜ lists (now (starts .exit)) (now (ends .exit)) (now (periods .exit))
-        ≡ stored (lists (now (starts .entry)) (now (ends .entry)) (now (periods .entry))) k (runOf run) ⌝ }
-{
-    starts[k] = run.start;
-    ends[k] = run.end;
-    periods[k] = run.period;
-}
-
-// By start and then by period.
-fn comes_before(run: Run, other: Run) -> bool
-    ensures { λ r. ⌜ r ≡ before (runOf run) (runOf other) ⌝ }
-{
-    if run.start == other.start {
-        return run.period < other.period;
-    }
-    run.start < other.start
-}
-
-// Whether the run comes before the entry that is before place j.
-fn is_passed(starts: &[u32], ends: &[u32], periods: &[u32], j: usize, run: Run) -> bool
-    requires { ⌜ Has (lists (now starts) (now ends) (now periods)) j ⌝ }
-    ensures { λ r. ⌜ r ≡ passes (lists (now (starts .entry)) (now (ends .entry)) (now (periods .entry))) j (runOf run) ⌝ }
-{
-    if j == 0 {
-        return false;
-    }
-    let other = load(starts, ends, periods, j - 1);
-    comes_before(run, other)
-}
-
-// Moves the entry before place j to place j.
-fn move_up(starts: &mut [u32], ends: &mut [u32], periods: &mut [u32], j: usize)
-    requires { ⌜ Has (lists (now starts) (now ends) (now periods)) j × (0 < j) ⌝ }
-    ensures { λ _.
-        ⌜ lists (now (starts .exit)) (now (ends .exit)) (now (periods .exit))
-        ≡ stored (lists (now (starts .entry)) (now (ends .entry)) (now (periods .entry))) j
-        (entryIn (lists (now (starts .entry)) (now (ends .entry)) (now (periods .entry))) (j - 1)) ⌝ }
-{
-    starts[j] = starts[j - 1];
-    ends[j] = ends[j - 1];
-    periods[j] = periods[j - 1];
-}
-
-// Puts a run, if it is one, into the first `count` entries, where it belongs; they are then as many as is returned.
-fn insert(
-    starts: &mut [u32],
-    ends: &mut [u32],
-    periods: &mut [u32],
-    count: usize,
-    run: Run,
-) -> usize
-    requires { ⌜ Has (lists (now starts) (now ends) (now periods)) count × (count ≤ 1000000) ⌝ }
-    requires { ⌜ (runOf run .period ≢ 0 → Insertable (lists (now starts) (now ends) (now periods)) count (runOf run)) ⌝ }
-    ensures { λ r.
-        ⌜ Put count (runOf run) (lists (now (starts .entry)) (now (ends .entry)) (now (periods .entry)))
-        (lists (now (starts .exit)) (now (ends .exit)) (now (periods .exit)))
-        r ⌝ }
-{
-    if run.period == 0 {
-        return count;
-    }
-    let mut j = count;
-    while is_passed(starts, ends, periods, j, run) {
-        move_up(starts, ends, periods, j);
-        j -= 1;
-    }
-    store(starts, ends, periods, j, run);
-    count + 1
 }
 
 // An entry as an index.

@@ -11,8 +11,9 @@ use Rattle.ranks.proofs.Ranks.{string-most}
 use Rattle.repeats.specs.Roots.{AtMost}
 use Rattle.repeats.specs.Gathered.{reportAt}
 use Rattle.repeats.specs.Refusals.{lists}
-use Rattle.roots.specs.States.{runOf, Within}
-use Rattle.roots.proofs.Gathering.{Gathering, gathering-none, gathering-has, gathering-more, gathering-done, insertable, report-read, within-next, nexts-length, matches-length, next-entry, match-entry}
+use Rattle.run_list.specs.Entries.{runOf}
+use Rattle.roots.specs.States.{Within}
+use Rattle.roots.proofs.Gathering.{Gathering, gathering-none, gathering-more, gathering-done, report-read, within-next, nexts-length, matches-length, next-entry, match-entry}
 use Rattle.roots.proofs.Clearing.{listed}
 use Rattle.roots.proofs.collect.Statement.{statement}
 use Rattle.roots.proofs.collect.Tie as tie
@@ -75,13 +76,6 @@ report-of-requires : tie.Need-report-of-requires Inv-loop μ-loop
 report-of-requires c κs =
     (same (at c), within c false (first c) (first-match c), within c true (second c) (second-match c), start (at c) .pre .0 .1)
 
-insert-requires : tie.Need-insert-requires Inv-loop μ-loop
-insert-requires c κs =
-    let r = c .before .before .before in
-    let q = r .before in
-    let m = at q in
-    ((gathering-has (below m) (m .loop .inv) (inside q), omega (arith, m .loop .inv .few, inside q, same m, start m .pre .0 .1)), insertable (below m) (m .loop .inv) (inside q) _ (reported r))
-
 loop-again : tie.Need-loop-again Inv-loop μ-loop
 loop-again c =
     let r = c .before .before .before .before .before .before .before .before .before .before in
@@ -130,7 +124,7 @@ collect-spec =
     (λ c κs. let m = c .before .before .before .before in omega (arith, nexts-length (start m .pre .1 .1), same m, c .before .before .before .loop-test .taken))
     (λ c κs. let m = c .before .before .before .before .before in omega (arith, matches-length (start m .pre .1 .1), same m, c .before .before .before .before .loop-test .taken))
     report-of-requires
-    insert-requires
+    (λ c κs. tt)
     (λ c. let q = c .before .before .before .before .before .before .before .before .before .before .before in omega (arith, inside q, same (at q), start (at q) .pre .0 .1))
     (λ c. omega arith)
     loop-again

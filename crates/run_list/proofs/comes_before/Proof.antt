@@ -1,8 +1,8 @@
--- `roots::comes_before` meets its contract.
+-- `run_list::comes_before` meets its contract.
 use native.Mathlib.Omega.{arith}
-use Rattle.roots.proofs.Inserting.{before-same, before-other}
-use Rattle.roots.proofs.comes_before.Statement.{statement}
-use Rattle.roots.proofs.comes_before.Tie as tie
+use Rattle.run_list.proofs.Inserting.{before-same, before-other}
+use Rattle.run_list.proofs.comes_before.Statement.{statement}
+use Rattle.run_list.proofs.comes_before.Tie as tie
 
 returns : tie.Need-returns
 returns c = before-same _ _ (omega arith)

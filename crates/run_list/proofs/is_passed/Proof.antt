@@ -1,8 +1,8 @@
--- `roots::is_passed` meets its contract.
+-- `run_list::is_passed` meets its contract.
 use borrow.Author.Needs.{needs}
-use Rattle.roots.proofs.Inserting.{passes-none, passes-one}
-use Rattle.roots.proofs.is_passed.Statement.{statement}
-use Rattle.roots.proofs.is_passed.Tie as tie
+use Rattle.run_list.proofs.Inserting.{passes-none, passes-one}
+use Rattle.run_list.proofs.is_passed.Statement.{statement}
+use Rattle.run_list.proofs.is_passed.Tie as tie
 
 returns : tie.Need-returns
 returns c = passes-none _ _ _ (c .if1 .taken)

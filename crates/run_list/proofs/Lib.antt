@@ -1,0 +1,4 @@
+pub mod Entries
+pub mod Inserting
+pub mod Shifting
+pub mod Laws
