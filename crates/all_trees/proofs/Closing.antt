@@ -1,17 +1,17 @@
 -- Brackets that close all that is open: the first of them, and those behind given ones.
 use mathlib.Core.Path.{_≡_, refl, sym, ap, _∙_}
 use mathlib.Core.Bool.{Bool, true, false, true≢false}
-use mathlib.Core.List.{List, [], _∷_, _++_, map, append-assoc}
+use mathlib.Core.List.{List, [], _∷_, _++_, map}
 use Prim.Native.Nat.{ℕ, zero, suc, _+_, _-_, _*_, _≤_, _<_}
 use native.Mathlib.Omega.{arith}
-use lib.ListN.{length, replicate}
+use lib.ListN.{replicate}
 use Rattle.suffix.proofs.Cases.{Test, holds, fails, test}
 use Rattle.shape.proofs.Heights.{opened}
 use Rattle.shape.proofs.Heights.{opened-none, opens, shuts}
 use Rattle.shape.proofs.Reading.{Balanced}
 use Rattle.all_trees.specs.Trees.{chosen, allBrackets, before, bracketsFrom}
 use Rattle.all_trees.proofs.Lists.{chosen-none}
-use Rattle.all_trees.proofs.BracketLists.{both, chosen-brackets, behind-opening, behind-closing, all-same}
+use Rattle.all_trees.proofs.BracketLists.{both, chosen-brackets, behind-opening, behind-closing}
 
 -- the brackets close all, where d are open before them
 abbrev pub closes : ℕ → List Bool → Bool

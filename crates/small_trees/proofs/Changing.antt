@@ -1,15 +1,15 @@
 -- Brackets changed from a bit on: the bytes, by sums of weights; and the brackets that come first.
 use mathlib.Core.Path.{_≡_, refl, sym, ap, _∙_}
-use mathlib.Core.Bool.{Bool, true, false, cond, _&&_}
-use mathlib.Core.List.{List, [], _∷_, _++_}
-use Prim.Native.Nat.{ℕ, zero, suc, _+_, _-_, _*_, _/_, _%_, _^_, _≤_, _<_}
-use native.Mathlib.Nat.{two-pow-succ}
+use mathlib.Core.Bool.{Bool, false, cond}
+use mathlib.Core.List.{List}
+use Prim.Native.Nat.{ℕ, zero, suc, _+_, _-_, _*_, _/_, _%_, _^_, _≤_, _<_, min}
+use native.Mathlib.Nat.{two-pow-succ, pow-le-pow-right, one-le-pow, mod-lt}
 use native.Mathlib.Omega.{arith}
-use lib.Dec.{ltb, leb}
+use lib.Dec.{eqb, ltb}
 use lib.ListN.{length, getD, set, length-set}
 use lib.Seq.{getD-set-same, getD-set-other}
 use borrow.Author.Tests.{lt-ltb, le-ltb, le-leb, lt-leb}
-use Rattle.suffix.specs.Search.{sumBelow, tabulate}
+use Rattle.suffix.specs.Search.{sumBelow}
 use Rattle.suffix.specs.Tree.{byteOf}
 use Rattle.suffix.proofs.Cases.{Tri, lt, eq, gt, tri, Same, same, other, same?}
 use Rattle.suffix.proofs.Search.{sum-same, tabulate-is}
@@ -36,66 +36,117 @@ pub bytes-same : (g h : ℕ → Bool) (j : ℕ) → ((i : ℕ) → i < 8 → g (
 unfolding byteOf
 bytes-same g h j q = sum-same (λ i. 2 ^ i * cond (g (8 * j + i)) 1 0) (λ i. 2 ^ i * cond (h (8 * j + i)) 1 0) 8 (λ i w. ap (λ b. 2 ^ i * cond b 1 0) (q i w))
 
-weight-fits : (m : ℕ) → m < 8 → 2 ^ m ≤ 128
-weight-fits zero h = omega arith
-weight-fits (suc zero) h = omega arith
-weight-fits (suc (suc zero)) h = omega arith
-weight-fits (suc (suc (suc zero))) h = omega arith
-weight-fits (suc (suc (suc (suc zero)))) h = omega arith
-weight-fits (suc (suc (suc (suc (suc zero))))) h = omega arith
-weight-fits (suc (suc (suc (suc (suc (suc zero)))))) h = omega arith
-weight-fits (suc (suc (suc (suc (suc (suc (suc zero))))))) h = omega arith
-weight-fits (suc (suc (suc (suc (suc (suc (suc (suc m)))))))) h = absurd (omega arith)
+-- one bit more
+mod-more : (b m : ℕ) → m < 8 → b % 2 ^ suc m ≡ b % 2 ^ m + 2 ^ m * (b / 2 ^ m % 2)
+mod-more b zero h = omega arith
+mod-more b (suc zero) h = omega arith
+mod-more b (suc (suc zero)) h = omega arith
+mod-more b (suc (suc (suc zero))) h = omega arith
+mod-more b (suc (suc (suc (suc zero)))) h = omega arith
+mod-more b (suc (suc (suc (suc (suc zero))))) h = omega arith
+mod-more b (suc (suc (suc (suc (suc (suc zero)))))) h = omega arith
+mod-more b (suc (suc (suc (suc (suc (suc (suc zero))))))) h = omega arith
+mod-more b (suc (suc (suc (suc (suc (suc (suc (suc m)))))))) h = absurd (omega arith)
 
-module _ (g : ℕ → Bool) (j : ℕ) where
+bit-value : (b m : ℕ) → cond (byteBit b m) 1 0 ≡ b / 2 ^ m % 2
+unfolding byteBit
+bit-value b m = go (b / 2 ^ m % 2) (omega arith)
+  where
+    go : (v : ℕ) → v < 2 → cond (eqb v 1) 1 0 ≡ v
+    go zero h = refl
+    go (suc zero) h = refl
+    go (suc (suc v)) h = absurd (omega arith)
+
+pub weight-fits : (m : ℕ) {u : ℕ} → u ≡ 2 ^ min m 8 → (0 < u) × (u ≤ 256)
+weight-fits m e = rw e (one-le-pow (min m 8) 2 (omega arith), pow-le-pow-right {n = 2} (omega arith) {i = min m 8} {j = 8} (omega arith))
+
+module _ (byte j k from to : ℕ) (f : k ≤ from) (g : from ≤ to) where
+  abbrev bits : ℕ → Bool
+  bits q = changedBit (byteBit byte (q % 8)) k from to q
+
+  -- how many bits of byte j are before bit q
+  abbrev before : ℕ → ℕ
+  before q = min (q - 8 * j) 8
+
   abbrev sumTo : ℕ → ℕ
-  sumTo m = sumBelow m (λ i. 2 ^ i * cond (g (8 * j + i)) 1 0)
+  sumTo m = sumBelow m (λ i. 2 ^ i * cond (bits (8 * j + i)) 1 0)
 
-  -- the sum of the first m bits of byte j of g
-  pub record Summed (value weight m : ℕ) : Type 0 where
-    pub within : m ≤ 8
-    pub weighs : weight ≡ 2 ^ m
-    pub small : value < weight
-    pub sum : value ≡ sumTo m
+  inside : (q m : ℕ) → m < 8 → 8 * j + m < q → (min m (before q) ≡ m) × (min (suc m) (before q) ≡ suc m)
+  inside q m h w = (omega arith, omega arith)
 
-  pub sum-start : Summed 0 1 0
+  past : (q m : ℕ) → q ≤ 8 * j + m → min (suc m) (before q) ≡ min m (before q)
+  past q m w = omega arith
+
+  -- the sum of the first m bits
+  summed : (m : ℕ) → m ≤ 8 → sumTo m + 2 ^ min m (before from) ≡ byte % 2 ^ min m (before k) + 2 ^ min m (before to)
   unfolding sumBelow
-  sum-start = record { within = omega arith; weighs = omega arith; small = omega arith; sum = refl }
+  summed zero h =
+      let z : (x : ℕ) → min 0 x ≡ 0 = λ x. omega arith in
+      rw (z (before from), z (before k), z (before to)) (omega arith)
+  summed (suc m) h = go (tri (8 * j + m) k) (summed m (omega arith))
+    where
+      Ih : Type 0
+      Ih = sumTo m + 2 ^ min m (before from) ≡ byte % 2 ^ min m (before k) + 2 ^ min m (before to)
 
-  module _ {value weight m : ℕ} (S : Summed value weight m) (h : m < 8) where
-    pub sum-fits : weight ≤ 128
-    sum-fits = omega (arith, S .weighs, weight-fits m h)
+      Goal : Type 0
+      Goal = sumTo m + 2 ^ m * cond (bits (8 * j + m)) 1 0 + 2 ^ min (suc m) (before from) ≡ byte % 2 ^ min (suc m) (before k) + 2 ^ min (suc m) (before to)
 
-    pub sum-one : g (8 * j + m) ≡ true → Summed (value + weight) (2 * weight) (m + 1)
-    unfolding sumBelow
-    sum-one e =
-        let z : m + 1 ≡ suc m = omega arith in
-        rw z
-        (record {
-          within = omega arith;
-          weighs = omega (arith, S .weighs, two-pow-succ m);
-          small = omega (arith, S .small);
-          sum = rw e (omega (arith, S .sum, S .weighs));
-        })
+      kept : 8 * j + m < k → Ih → Goal
+      kept w ih =
+          let a = inside k m (omega arith) w in
+          let b = inside from m (omega arith) (omega arith) in
+          let c = inside to m (omega arith) (omega arith) in
+          let y : (8 * j + m) % 8 ≡ m = omega arith in
+          let e : cond (bits (8 * j + m)) 1 0 ≡ byte / 2 ^ m % 2 = ap (λ v. cond v 1 0) (changed-before (byteBit byte ((8 * j + m) % 8)) k from to (8 * j + m) w ∙ ap (byteBit byte) y) ∙ bit-value byte m in
+          rw (a .1, b .1, c .1, e) (omega (arith, mod-more byte m (omega arith), rw (a .0, b .0, c .0) at ih))
 
-    pub sum-none : g (8 * j + m) ≡ false → Summed value (2 * weight) (m + 1)
-    unfolding sumBelow
-    sum-none e =
-        let z : m + 1 ≡ suc m = omega arith in
-        rw z
-        (record {
-          within = omega arith;
-          weighs = omega (arith, S .weighs, two-pow-succ m);
-          small = omega (arith, S .small);
-          sum = rw e (omega (arith, S .sum));
-        })
+      low : k ≤ 8 * j + m → 8 * j + m < from → Ih → Goal
+      low u w ih =
+          let b = inside from m (omega arith) w in
+          let c = inside to m (omega arith) (omega arith) in
+          rw (past k m u, b .1, c .1, changed-low (byteBit byte ((8 * j + m) % 8)) k from to (8 * j + m) u w) (omega (arith, rw (b .0, c .0) at ih))
 
-  pub sum-end : {value weight m : ℕ} → Summed value weight m → 8 ≤ m → (value < 256) × (value ≡ byteOf g j)
+      high : from ≤ 8 * j + m → 8 * j + m < to → Ih → Goal
+      high u w ih =
+          let c = inside to m (omega arith) w in
+          rw (past k m (omega arith), past from m u, c .1, changed-high (byteBit byte ((8 * j + m) % 8)) k from to (8 * j + m) (omega arith) u, lt-ltb (8 * j + m) to w)
+          (omega (arith, two-pow-succ m, rw (c .0) at ih))
+
+      none : to ≤ 8 * j + m → Ih → Goal
+      none u ih =
+          rw (past k m (omega arith), past from m (omega arith), past to m u, changed-high (byteBit byte ((8 * j + m) % 8)) k from to (8 * j + m) (omega arith) (omega arith), le-ltb (8 * j + m) to u)
+          (omega arith)
+
+      from-on : from ≤ 8 * j + m → Tri (8 * j + m) to → Ih → Goal
+      from-on u (lt c) = high u c
+      from-on u (eq c) = none (omega arith)
+      from-on u (gt c) = none (omega arith)
+
+      k-on : k ≤ 8 * j + m → Tri (8 * j + m) from → Ih → Goal
+      k-on u (lt b) = low u b
+      k-on u (eq b) = from-on (omega arith) (tri (8 * j + m) to)
+      k-on u (gt b) = from-on (omega arith) (tri (8 * j + m) to)
+
+      go : Tri (8 * j + m) k → Ih → Goal
+      go (lt a) = kept a
+      go (eq a) = k-on (omega arith) (tri (8 * j + m) from)
+      go (gt a) = k-on (omega arith) (tri (8 * j + m) from)
+
+  -- a byte by the weights u, v and w of its first bits that are not before k, from and to
+  pub record Weighed (u v w : ℕ) : Type 0 where
+    pub enough : v ≤ byte % u + w
+    pub fits : byte % u + w - v < 256
+    pub is : byte % u + w - v ≡ byteOf bits j
+
+  pub weights-byte : {u v w : ℕ} → u ≡ 2 ^ before k → v ≡ 2 ^ before from → w ≡ 2 ^ before to → Weighed u v w
   unfolding byteOf
-  sum-end {value} {weight} {m} S h =
-      let z : m ≡ 8 = omega (arith, S .within) in
-      let e : weight ≡ 2 ^ 8 = rw z at (S .weighs) in
-      (omega (arith, S .small), rw z at (S .sum))
+  weights-byte {u} {v} {w} x y z =
+      let all : (q : ℕ) → min 8 (before q) ≡ before q = λ q. omega arith in
+      let s : sumTo 8 + v ≡ byte % u + w = rw (x, y, z) (rw (all from, all k, all to) at (summed 8 (omega arith))) in
+      let up : u ≤ v = rw (x, y) (pow-le-pow-right {n = 2} (omega arith) {i = before k} {j = before from} (omega arith)) in
+      let rest : byte % u < u = mod-lt byte (weight-fits (k - 8 * j) x .0) in
+      let most : w ≤ 256 = weight-fits (to - 8 * j) z .1 in
+      record { enough = omega arith; fits = omega arith; is = omega arith }
 
 -- ---- byte after byte
 

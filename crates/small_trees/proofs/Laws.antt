@@ -6,7 +6,6 @@ use Prim.Native.Nat.{ℕ, zero, suc, _<_}
 use native.Mathlib.Omega.{arith}
 use lib.ListN.{length, getD}
 use Rattle.suffix.specs.Tree.{treeLength}
-use Rattle.refusal.specs.Conditions.{treeRefusal}
 use Rattle.shape.proofs.Conditions.{tree-flaw}
 use Rattle.all_trees.specs.Trees.{treesOf, firstTree}
 use Rattle.all_trees.proofs.Laws.{treesAreAll, some-tree, next-is, not-last-is, last-is}

@@ -8,7 +8,6 @@ use lib.Dec.{eqb, ltb}
 use lib.ListN.{length, getD, replicate, List·getD-append, getD-replicate, length-replicate}
 use lib.Seq.{getD-append-add}
 use borrow.Author.Tests.{lt-ltb, le-ltb, ne-eqb}
-use Rattle.suffix.specs.Search.{tabulate}
 use Rattle.suffix.specs.Tree.{byteOf, treeLength}
 use Rattle.suffix.proofs.Cases.{Tri, lt, eq, gt, tri}
 use Rattle.suffix.proofs.Search.{tabulate-same}

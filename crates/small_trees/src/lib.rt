@@ -1,13 +1,12 @@
 // The trees of a small size, one after the other in the same buffer.
 ghost use mathlib.Core.Path.{_≡_};
-ghost use Prim.Native.Nat.{_%_, _≤_, _<_};
+ghost use Prim.Native.Nat.{_-_, _*_, _%_, _^_, _≤_, _<_, min};
 ghost use lib.ListN.{length};
 ghost use Rattle.suffix.specs.Tree.{byteOf};
 ghost use Rattle.refusal.specs.Numbers.{verdictNumber};
 ghost use Rattle.refusal.specs.Conditions.{byteBit, treeRefusal};
 ghost use Rattle.small_trees.specs.Answers.{sizeOutside, goingOf, FirstGiven, NextGiven};
 ghost use Rattle.small_trees.specs.Steps.{changedBit, changedTree, Stepped};
-use excess::bit;
 use excess::is_open;
 use refusal::Refusal;
 use refusal::Verdict;
@@ -26,42 +25,32 @@ fn is_outside(size: usize) -> bool
     size == 0 || size > 12
 }
 
-// Bit q of changed brackets: before bit k as it is in its byte, and from there on an opening from `from` on and below `to`.
-fn changed_bit(byte: u8, k: usize, from: usize, to: usize, q: usize) -> bool
-    ensures { λ r. ⌜ r ≡ changedBit (byteBit byte (q % 8)) k from to q ⌝ }
+// The weight of the first bit of byte j that is not before bit q, 256 where all are.
+fn weight_before(q: usize, j: usize) -> u32
+    requires { ⌜ j < 3 ⌝ }
+    ensures { λ r. ⌜ r ≡ 2 ^ min (q - 8 * j) 8 ⌝ }
 {
-    if q < k {
-        return bit(byte, q);
+    if q <= 8 * j {
+        return 1;
     }
-    if q < from {
-        return false;
+    if q >= 8 * j + 8 {
+        return 256;
     }
-    q < to
+    1u32 << (q - 8 * j)
 }
 
-// Byte j of changed brackets.
+// Byte j of changed brackets: its bits before bit k stay, and after them there are openings from `from` on and before `to`.
 fn changed_byte(byte: u8, j: usize, k: usize, from: usize, to: usize) -> u8
-    requires { ⌜ j < 3 ⌝ }
+    requires { ⌜ (j < 3) × (k ≤ from) × (from ≤ to) ⌝ }
     ensures { λ r. ⌜ r ≡ byteOf (λ q. changedBit (byteBit byte (q % 8)) k from to q) j ⌝ }
 {
-    let mut value = 0u32;
-    let mut weight = 1u32;
-    let mut m = 0;
-    while m < 8 {
-        let q = 8 * j + m;
-        let here = weight;
-        weight = 2 * weight;
-        m += 1;
-        if changed_bit(byte, k, from, to, q) {
-            value += here;
-        }
-    }
-    value as u8
+    let kept = byte as u32 % weight_before(k, j);
+    (kept + weight_before(to, j) - weight_before(from, j)) as u8
 }
 
 // Changes the brackets from bit k on; the bytes before its byte stay.
 fn change(tree: &mut [u8], k: usize, from: usize, to: usize)
-    requires { ⌜ length (now tree) ≤ 3 ⌝ }
+    requires { ⌜ (length (now tree) ≤ 3) × (k ≤ from) × (from ≤ to) ⌝ }
     ensures { λ _. ⌜ now (tree .exit) ≡ changedTree (now (tree .entry)) k from to ⌝ }
 {
     let mut j = k / 8;

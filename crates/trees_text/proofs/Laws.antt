@@ -17,7 +17,7 @@ use Rattle.small_trees.proofs.Answering.{first-14, first-inside}
 use Rattle.small_trees.proofs.Laws.{goingOnReachesEach}
 use Rattle.tree_size.specs.Size.{sizeIn}
 use Rattle.trees_text.specs.Text.{lineText, linesText, noSizeText, sizeText, programText}
-use Rattle.trees_text.specs.Claims.{reachedText, TextIsOfGoingOn, OtherSizesAreNone, LinesAfter, none, line, Printed, LinesMadeAreTheText}
+use Rattle.trees_text.specs.Claims.{reachedText, TextIsOfGoingOn, OtherSizesAreNone, LinesAfter, none, line, LinesMadeAreTheText}
 use Rattle.trees_text.proofs.Lines.{listed-most, text-lines, text-none}
 
 -- up to any line

@@ -20,7 +20,9 @@ slice-read-changed-byte : tie.Need-slice-read-changed-byte Inv-loop μ-loop
 slice-read-changed-byte c = omega (arith, c .before .loop-test .taken)
 
 changed-byte-requires : tie.Need-changed-byte-requires Inv-loop μ-loop
-changed-byte-requires c κs = omega (arith, c .before .loop-test .taken, c .before .before .loop .inv .long)
+changed-byte-requires c κs =
+    let s = c .before .before .before .before in
+    (omega (arith, c .before .loop-test .taken, c .before .before .loop .inv .long, s .pre .0), s .pre .1, s .pre .2)
 
 slice-write-tree : tie.Need-slice-write-tree Inv-loop μ-loop
 slice-write-tree c = omega (arith, c .before .before .loop-test .taken)

@@ -41,7 +41,7 @@ module _ (c : tie.Else2) where
   length-is = c .if2 .left ∙ c .before .tree-length .ensures
 
 change-requires : tie.Need-change-requires
-change-requires c κs = omega (arith, length-is (c .before), inside (s (d (c .before)) .args .size) (size-in (d (c .before))))
+change-requires c κs = (omega (arith, length-is (c .before), inside (s (d (c .before)) .args .size) (size-in (d (c .before)))), omega arith, omega arith)
 
 returns-3 : tie.Need-returns-3
 returns-3 c =

@@ -1,6 +1,6 @@
 -- `small_trees::go_on` meets its contract.
 use mathlib.Core.Path.{_≡_, refl, sym, ap, _∙_}
-use mathlib.Core.Bool.{true, false, cond}
+use mathlib.Core.Bool.{true, cond}
 use mathlib.Core.List.{List}
 use Prim.Native.Nat.{ℕ, suc, _+_, _-_, _*_, _≤_, _<_}
 use native.Mathlib.Omega.{arith}
@@ -100,7 +100,7 @@ add-change-3 : tie.Need-add-change-3 Inv-loop μ-loop
 add-change-3 c = omega (arith, few (c .before .before .before))
 
 change-requires : tie.Need-change-requires Inv-loop μ-loop
-change-requires c κs = length-is (c .before .before .before)
+change-requires c κs = (length-is (c .before .before .before), omega arith, omega arith)
 
 same-length : tie.Need-same-length Inv-loop μ-loop
 same-length c = search needs

@@ -1,6 +1,5 @@
 -- `tree_size::one_digit` meets its contract.
 use mathlib.Core.Path.{sym, _∙_}
-use native.Mathlib.Omega.{arith}
 use borrow.Author.Needs.{needs}
 use Rattle.tree_size.proofs.Input.{digit-low, one-is, one-none}
 use Rattle.tree_size.proofs.one_digit.Statement.{statement}

@@ -1,5 +1,5 @@
 -- `tree_size::size_in` meets its contract.
-use mathlib.Core.Path.{_≡_, sym, _∙_}
+use mathlib.Core.Path.{sym, _∙_}
 use mathlib.Core.Logic.{⊎-elim}
 use mathlib.Core.Bool.{true≢false}
 use borrow.Author.Needs.{needs}

@@ -1,5 +1,5 @@
 -- `tree_size::two_digits` meets its contract.
-use mathlib.Core.Path.{_≡_, sym, _∙_}
+use mathlib.Core.Path.{sym, _∙_}
 use mathlib.Core.Logic.{⊎-elim}
 use native.Mathlib.Omega.{arith}
 use Rattle.tree_size.proofs.Input.{one-most, two-are, two-none-first, two-none-second}

@@ -1,13 +1,7 @@
 -- `trees_text::begin` meets its contract.
-use mathlib.Core.Path.{_≡_, refl, sym, ap, _∙_}
-use mathlib.Core.List.{List, []}
-use Prim.Native.Nat.{ℕ}
 use native.Mathlib.Omega.{arith}
-use lib.ListN.{length, getD}
 use borrow.Author.Needs.{needs}
-use Rattle.refusal.specs.Numbers.{verdictNumber}
 use Rattle.refusal.proofs.Numbers.{accepted-of, refused-of}
-use Rattle.writing.proofs.Writes.{put-fits}
 use Rattle.trees_text.proofs.Beginning.{begun-none, begun-first, first-taken}
 use Rattle.trees_text.proofs.begin.Statement.{statement}
 use Rattle.trees_text.proofs.begin.Tie as tie

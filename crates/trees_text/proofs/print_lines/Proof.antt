@@ -1,11 +1,9 @@
 -- `trees_text::print_lines` meets its contract. The loop's invariant: a line is in the buffer, and those before it are written.
-use mathlib.Core.Path.{_≡_, refl, sym, ap, _∙_}
+use mathlib.Core.Path.{_≡_, refl, sym, _∙_}
 use Prim.Native.Nat.{_-_, _≤_}
 use native.Mathlib.Omega.{arith}
 use lib.ListN.{length}
 use lib.Seq.{length-take-le}
-use borrow.Author.Needs.{needs}
-use Rattle.suffix.specs.Tree.{treeLength}
 use Rattle.trees_text.specs.Text.{sizeText}
 use Rattle.trees_text.proofs.Running.{Running, running-most, running-fits, running-up, running-ends, running-taken, running-again, running-start}
 use Rattle.trees_text.proofs.print_lines.Statement.{statement}
