@@ -30,7 +30,8 @@ use Rattle.run_list.specs.Inserted.{Inserted}
 use Rattle.run_list.specs.Claims.{Insertable, Put}
 use Rattle.run_list.proofs.Entries.{entries-count, entry-mem, entries-ordered}
 use Rattle.run_list.proofs.Laws.{orderIsKept}
-use Rattle.roots.specs.States.{Within, Tabled}
+use Rattle.root_runs.specs.States.{Within}
+use Rattle.roots.specs.States.{Tabled}
 
 -- next and its match lie in the string, under either order
 pub within-next : (y : List ℕ) (o : Bool) (i : ℕ) → i < length y → {j : ℕ} → j ≡ next (oriented o y) i → {m : ℕ} → m ≡ nextMatch (oriented o y) i → Within (length y) i j m
