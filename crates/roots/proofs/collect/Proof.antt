@@ -1,6 +1,6 @@
 -- `roots::collect` meets its contract.
 use mathlib.Core.Path.{_≡_, sym, _∙_}
-use mathlib.Core.Bool.{Bool, true, false}
+use mathlib.Core.Bool.{true, false}
 use mathlib.Core.List.{List}
 use Prim.Native.Nat.{ℕ, _-_, _<_}
 use native.Mathlib.Omega.{arith}
@@ -12,9 +12,7 @@ use Rattle.repeats.specs.Roots.{AtMost}
 use Rattle.repeats.specs.Gathered.{reportAt}
 use Rattle.repeats.specs.Refusals.{lists}
 use Rattle.run_list.specs.Entries.{runOf}
-use Rattle.root_runs.specs.States.{Within}
-use Rattle.root_runs.proofs.Laws.{withinAsReported}
-use Rattle.roots.proofs.Gathering.{Gathering, gathering-none, gathering-more, gathering-done, report-read, within-next, nexts-length, matches-length, next-entry, match-entry}
+use Rattle.roots.proofs.Gathering.{Gathering, gathering-none, gathering-more, gathering-done, report-read, nexts-length, matches-length, next-entry, match-entry}
 use Rattle.roots.proofs.Clearing.{listed}
 use Rattle.roots.proofs.collect.Statement.{statement}
 use Rattle.roots.proofs.collect.Tie as tie
@@ -67,14 +65,10 @@ module _ (q : tie.After-read4 Inv-loop μ-loop) where
   second-match : q .read4 .result ≡ nextMatch (oriented true y) i
   second-match = q .read4 .ensures ∙ match-entry (start at .pre .1 .1) i inside
 
-  within : (o : Bool) {j m : ℕ} → j ≡ next (oriented o y) i → m ≡ nextMatch (oriented o y) i → Within (length y) i j m
-  within o a b = within-next y o i inside a b
-
 reported : (r : tie.After-report-of Inv-loop μ-loop) → let q = r .before in runOf (r .report-of .result) ≡ reportAt greatestRank (y q) (i q)
 reported r =
     let q = r .before in
-    let inside = withinAsReported (y q) (i q) _ _ _ _ (omega (arith, same (at q), start (at q) .pre .0 .1)) (within q false (first q) (first-match q)) (within q true (second q) (second-match q)) in
-    report-read (y q) (i q) (r .report-of .ensures ∙ inside) (first q) (first-match q) (second q) (second-match q)
+    report-read (y q) (omega (arith, same (at q), start (at q) .pre .0 .1)) (i q) (inside q) (r .report-of .ensures) (first q) (first-match q) (second q) (second-match q)
 
 loop-again : tie.Need-loop-again Inv-loop μ-loop
 loop-again c =
