@@ -22,7 +22,7 @@ use Rattle.outcome.proofs.Alone.{Lengths, whole}
 use Rattle.repeats.specs.Runs.{Run}
 use Rattle.repeats.specs.Report.{runs, Before}
 use Rattle.repeats.specs.Roots.{AtMost}
-use Rattle.repeats.specs.Gathered.{reportOf, reportAt, put, gathered}
+use Rattle.repeats.specs.Gathered.{reportAt, put, gathered}
 use Rattle.repeats.specs.Refusals.{Lists}
 use Rattle.repeats.proofs.Gathering.{Holds, Gathers, puts, leaves, gathers-how, gathered-holds, gathered-is, gathered-few, fresh}
 use Rattle.run_list.specs.Entries.{entryIn, entriesFrom, entries, Has}
@@ -30,10 +30,13 @@ use Rattle.run_list.specs.Inserted.{Inserted}
 use Rattle.run_list.specs.Claims.{Insertable, Put}
 use Rattle.run_list.proofs.Entries.{entries-count, entry-mem, entries-ordered}
 use Rattle.run_list.proofs.Laws.{orderIsKept}
-use Rattle.roots.specs.States.{Within, Tabled}
+use Rattle.root_runs.specs.States.{Within}
+use Rattle.root_runs.specs.Bounds.{reportWithin}
+use Rattle.root_runs.proofs.Laws.{withinAsReported}
+use Rattle.roots.specs.States.{Tabled}
 
 -- next and its match lie in the string, under either order
-pub within-next : (y : List ℕ) (o : Bool) (i : ℕ) → i < length y → {j : ℕ} → j ≡ next (oriented o y) i → {m : ℕ} → m ≡ nextMatch (oriented o y) i → Within (length y) i j m
+within-next : (y : List ℕ) (o : Bool) (i : ℕ) → i < length y → {j : ℕ} → j ≡ next (oriented o y) i → {m : ℕ} → m ≡ nextMatch (oriented o y) i → Within (length y) i j m
 within-next y o i h a b =
     let z : List ℕ = oriented o y in
     let n : length z ≡ length y = oriented-length greatestRank o y in
@@ -124,7 +127,9 @@ pub gathering-done : {y : List ℕ} → AtMost greatestRank y → {i c : ℕ} {t
 gathering-done {y} B {i} G w = let z : i ≡ length y = omega arith in G .holds ∙ ap (gathered greatestRank y) z ∙ gathered-is B
 
 -- what is read at place i is its report
-pub report-read : (y : List ℕ) (i : ℕ) {j m k l : ℕ} {r : Run} → r ≡ reportOf y i j m k l → j ≡ next (oriented false y) i → m ≡ nextMatch (oriented false y) i → k ≡ next (oriented true y) i → l ≡ nextMatch (oriented true y) i
+pub report-read : (y : List ℕ) → length y ≤ 1000000 → (i : ℕ) → i < length y → {j m k l : ℕ} {r : Run} → r ≡ reportWithin y i j m k l → j ≡ next (oriented false y) i → m ≡ nextMatch (oriented false y) i → k ≡ next (oriented true y) i → l ≡ nextMatch (oriented true y) i
     → r ≡ reportAt greatestRank y i
 unfolding reportAt
-report-read y i w a b d e = rw (a, b, d, e) at w
+report-read y few i h {j} {m} {k} {l} w a b d e =
+    let is = withinAsReported y i j m k l few (within-next y false i h a b) (within-next y true i h d e) in
+    rw (a, b, d, e) at (w ∙ is)

@@ -1,5 +1,3 @@
-pub mod Scanning
-pub mod Judging
 pub mod Gathering
 pub mod Clearing
 pub mod Refusing

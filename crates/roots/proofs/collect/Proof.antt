@@ -1,6 +1,6 @@
 -- `roots::collect` meets its contract.
 use mathlib.Core.Path.{_≡_, sym, _∙_}
-use mathlib.Core.Bool.{Bool, true, false}
+use mathlib.Core.Bool.{true, false}
 use mathlib.Core.List.{List}
 use Prim.Native.Nat.{ℕ, _-_, _<_}
 use native.Mathlib.Omega.{arith}
@@ -12,8 +12,7 @@ use Rattle.repeats.specs.Roots.{AtMost}
 use Rattle.repeats.specs.Gathered.{reportAt}
 use Rattle.repeats.specs.Refusals.{lists}
 use Rattle.run_list.specs.Entries.{runOf}
-use Rattle.roots.specs.States.{Within}
-use Rattle.roots.proofs.Gathering.{Gathering, gathering-none, gathering-more, gathering-done, report-read, within-next, nexts-length, matches-length, next-entry, match-entry}
+use Rattle.roots.proofs.Gathering.{Gathering, gathering-none, gathering-more, gathering-done, report-read, nexts-length, matches-length, next-entry, match-entry}
 use Rattle.roots.proofs.Clearing.{listed}
 use Rattle.roots.proofs.collect.Statement.{statement}
 use Rattle.roots.proofs.collect.Tie as tie
@@ -66,15 +65,10 @@ module _ (q : tie.After-read4 Inv-loop μ-loop) where
   second-match : q .read4 .result ≡ nextMatch (oriented true y) i
   second-match = q .read4 .ensures ∙ match-entry (start at .pre .1 .1) i inside
 
-  within : (o : Bool) {j m : ℕ} → j ≡ next (oriented o y) i → m ≡ nextMatch (oriented o y) i → Within (start at .args .n) i j m
-  within o a b = rw (same at) at (within-next y o i inside a b)
-
 reported : (r : tie.After-report-of Inv-loop μ-loop) → let q = r .before in runOf (r .report-of .result) ≡ reportAt greatestRank (y q) (i q)
-reported r = let q = r .before in report-read (y q) (i q) (r .report-of .ensures) (first q) (first-match q) (second q) (second-match q)
-
-report-of-requires : tie.Need-report-of-requires Inv-loop μ-loop
-report-of-requires c κs =
-    (same (at c), within c false (first c) (first-match c), within c true (second c) (second-match c), start (at c) .pre .0 .1)
+reported r =
+    let q = r .before in
+    report-read (y q) (omega (arith, same (at q), start (at q) .pre .0 .1)) (i q) (inside q) (r .report-of .ensures) (first q) (first-match q) (second q) (second-match q)
 
 loop-again : tie.Need-loop-again Inv-loop μ-loop
 loop-again c =
@@ -123,7 +117,7 @@ collect-spec =
     (λ c κs. let m = c .before .before .before in omega (arith, matches-length (start m .pre .1 .0), same m, c .before .before .loop-test .taken))
     (λ c κs. let m = c .before .before .before .before in omega (arith, nexts-length (start m .pre .1 .1), same m, c .before .before .before .loop-test .taken))
     (λ c κs. let m = c .before .before .before .before .before in omega (arith, matches-length (start m .pre .1 .1), same m, c .before .before .before .before .loop-test .taken))
-    report-of-requires
+    (λ c κs. tt)
     (λ c κs. tt)
     (λ c. let q = c .before .before .before .before .before .before .before .before .before .before .before in omega (arith, inside q, same (at q), start (at q) .pre .0 .1))
     (λ c. omega arith)

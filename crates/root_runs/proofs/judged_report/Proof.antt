@@ -1,9 +1,10 @@
--- `roots::report_of` meets its contract.
+-- `root_runs::judged_report` meets its contract.
+use mathlib.Core.Path.{_∙_}
 use native.Mathlib.Omega.{arith}
 use borrow.Author.Needs.{needs}
-use Rattle.roots.proofs.Judging.{reports-first, reports-second, reports-none}
-use Rattle.roots.proofs.report_of.Statement.{statement}
-use Rattle.roots.proofs.report_of.Tie as tie
+use Rattle.root_runs.proofs.Judging.{reports-first, reports-second, reports-none}
+use Rattle.root_runs.proofs.judged_report.Statement.{statement}
+use Rattle.root_runs.proofs.judged_report.Tie as tie
 
 returns : tie.Need-returns
 returns c = reports-first _ _ _ _ _ _ _ (c .before .accepted-left .ensures) (omega arith) (omega arith) (omega arith) (omega arith)
@@ -12,10 +13,12 @@ returns-2 : tie.Need-returns-2
 returns-2 c = reports-second _ _ _ _ _ _ _ (c .before .before .before .accepted-left .ensures) (omega arith) _ (c .before .accepted-left2 .ensures) (omega arith) (omega arith) (omega arith) (omega arith)
 
 returns-3 : tie.Need-returns-3
-returns-3 c = reports-none _ _ _ _ _ _ _ (c .before .before .before .accepted-left .ensures) (omega arith) _ (c .before .accepted-left2 .ensures) (omega arith)
+returns-3 c =
+    let d = c .before in
+    c .no-run .ensures ∙ reports-none _ _ _ _ _ _ _ (d .before .before .before .accepted-left .ensures) (omega arith) _ (d .before .accepted-left2 .ensures) (omega arith)
 
-pub report-of-spec : {M : Type 1} → statement M
-report-of-spec =
+pub judged-report-spec : {M : Type 1} → statement M
+judged-report-spec =
     tie.close
     (tie.spec
     (λ c κs. search needs)
@@ -34,4 +37,5 @@ report-of-spec =
     (λ c. omega arith)
     (λ c. omega arith)
     returns-2
+    (λ c κs. tt)
     returns-3)

@@ -9,7 +9,7 @@ use Rattle.repeats.specs.Runs.{noRun}
 use Rattle.repeats.specs.Roots.{leftOf, reports}
 use Rattle.repeats.specs.Gathered.{reportOf}
 use Rattle.repeats.proofs.Accepting.{Accepts, tell-accepts, accepts-not, left-most}
-use Rattle.roots.specs.States.{Judged}
+use Rattle.root_runs.specs.States.{Judged}
 
 module _ (y : List ℕ) (reverse : Bool) (i j m : ℕ) where
   pub judged-no : (Accepts y reverse i j m → ⊥) → Judged y reverse i j m 0

@@ -1,10 +1,10 @@
--- `roots::left_of` meets its contract.
+-- `root_runs::left_of` meets its contract.
 use Prim.Native.Nat.{_-_}
 use native.Mathlib.Omega.{arith}
 use Rattle.ranks.specs.Ranks.{stringOf}
-use Rattle.roots.proofs.Scanning.{Agreeing, agree-none, agree-more, at-most, at-difference}
-use Rattle.roots.proofs.left_of.Statement.{statement}
-use Rattle.roots.proofs.left_of.Tie as tie
+use Rattle.root_runs.proofs.Scanning.{Agreeing, agree-none, agree-more, at-most, at-difference}
+use Rattle.root_runs.proofs.left_of.Statement.{statement}
+use Rattle.root_runs.proofs.left_of.Tie as tie
 
 abbrev Inv-loop : tie.InvT-loop
 Inv-loop letters symbols wide i j most x₀ x = Agreeing (stringOf wide letters symbols) i j x

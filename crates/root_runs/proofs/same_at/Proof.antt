@@ -1,12 +1,12 @@
--- `roots::same_at` meets its contract.
+-- `root_runs::same_at` meets its contract.
 use Prim.Native.Nat.{ℕ}
 use native.Mathlib.Omega.{arith}
 use lib.ListN.{getD}
 use Rattle.suffix.proofs.Tests.{tests, equal-test}
 use Rattle.ranks.specs.Ranks.{stringOf}
 use Rattle.ranks.proofs.Ranks.{AtSymbols, AtLetters, at-symbols, at-letters}
-use Rattle.roots.proofs.same_at.Statement.{statement}
-use Rattle.roots.proofs.same_at.Tie as tie
+use Rattle.root_runs.proofs.same_at.Statement.{statement}
+use Rattle.root_runs.proofs.same_at.Tie as tie
 
 abbrev rank-at : tie.Start → ℕ → ℕ
 rank-at s i = getD (stringOf (s .args .wide) (s .args .letters .now) (s .args .symbols .now)) i 0

@@ -1,11 +1,11 @@
--- `roots::accepted_left` meets its contract.
+-- `root_runs::accepted_left` meets its contract.
 use mathlib.Core.Path.{sym, _∙_}
 use mathlib.Core.Bool.{true≢false}
 use native.Mathlib.Omega.{arith}
 use borrow.Author.Needs.{needs}
-use Rattle.roots.proofs.Judging.{judged-no, judged-yes}
-use Rattle.roots.proofs.accepted_left.Statement.{statement}
-use Rattle.roots.proofs.accepted_left.Tie as tie
+use Rattle.root_runs.proofs.Judging.{judged-no, judged-yes}
+use Rattle.root_runs.proofs.accepted_left.Statement.{statement}
+use Rattle.root_runs.proofs.accepted_left.Tie as tie
 
 returns : tie.Need-returns
 returns c = let x = c .before .left-of .ensures in judged-no _ _ _ _ _ (λ A. omega (arith, A .one, x))

@@ -1,0 +1,4 @@
+pub mod Scanning
+pub mod Judging
+pub mod Bounds
+pub mod Laws
