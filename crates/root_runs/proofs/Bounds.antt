@@ -3,10 +3,9 @@ use mathlib.Core.Path.{_≡_, refl, sym, ap, _∙_}
 use mathlib.Core.Bool.{Bool, true, false, not, _&&_}
 use mathlib.Core.List.{List}
 use Prim.Native.Nat.{ℕ, _+_, _-_, _≤_, _<_}
-use native.Mathlib.Omega.{arith}
 use lib.Dec.{ltb, leb}
 use lib.ListN.{length}
-use borrow.Author.Tests.{lt-ltb, le-ltb, ltb-true, leb-true, ltb-false, le-leb, lt-leb, not-true}
+use borrow.Author.Tests.{lt-ltb, le-ltb, ltb-true, leb-true, ltb-false, le-leb, not-true}
 use Rattle.suffix.proofs.Cases.{both-true}
 use Rattle.repeats.specs.Runs.{Run, noRun}
 use Rattle.repeats.specs.Gathered.{reportOf}
@@ -16,18 +15,13 @@ use Rattle.root_runs.specs.Bounds.{isWithin, areWithin, reportWithin}
 -- ---- one place
 
 module _ (n i j m : ℕ) where
-  pub not-after : j ≤ i → false ≡ isWithin n i j m
+  pub not-after : j ≤ i → ltb i j ≡ isWithin n i j m
   unfolding isWithin
   not-after h = rw (le-ltb i j h)
 
-  pub next-outside : i < j → n < j → false ≡ isWithin n i j m
+  pub by-end : i < j → leb (j + m) n ≡ isWithin n i j m
   unfolding isWithin
-  next-outside h g = rw (lt-ltb i j h, lt-leb (j + m) n (omega arith))
-
-  pub by-match : i < j → j ≤ n → {b : Bool} → (b ≡ true → m ≤ n - j) → (b ≡ false → n - j < m) → b ≡ isWithin n i j m
-  unfolding isWithin
-  by-match h g {b = true} y f = let w = y refl in rw (lt-ltb i j h, le-leb (j + m) n (omega arith))
-  by-match h g {b = false} y f = let w = f refl in rw (lt-ltb i j h, lt-leb (j + m) n (omega arith))
+  by-end h = rw (lt-ltb i j h)
 
   pub within-yes : Within n i j m → isWithin n i j m ≡ true
   unfolding isWithin

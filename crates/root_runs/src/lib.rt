@@ -132,19 +132,15 @@ fn judged_report(
 
 // Whether place i has next j and next-match m in a string of n letters or symbols.
 fn is_within(n: usize, i: usize, j: usize, m: usize) -> bool
+    requires { ⌜ (j < 4294967296) × (m < 4294967296) ⌝ }
     ensures { λ r. ⌜ r ≡ isWithin n i j m ⌝ }
 {
-    if j <= i {
-        return false;
-    }
-    if n < j {
-        return false;
-    }
-    m <= n - j
+    i < j && j + m <= n
 }
 
 // Whether n is not too great, and both are in the string.
 fn are_within(n: usize, i: usize, j: usize, m: usize, k: usize, l: usize) -> bool
+    requires { ⌜ (j < 4294967296) × (m < 4294967296) × (k < 4294967296) × (l < 4294967296) ⌝ }
     ensures { λ r. ⌜ r ≡ areWithin n i j m k l ⌝ }
 {
     if n > 1000000 {
@@ -163,16 +159,30 @@ pub fn report_of(
     symbols: &[u32],
     wide: bool,
     i: usize,
-    j: usize,
-    m: usize,
-    k: usize,
-    l: usize,
+    j: u32,
+    m: u32,
+    k: u32,
+    l: u32,
 ) -> Run
     ensures { λ r. ⌜ runOf r ≡ reportWithin (stringOf wide (now (letters .entry)) (now (symbols .entry))) i j m k l ⌝ }
 {
     let n = ranks::string_length(letters, symbols, wide);
-    if are_within(n, i, j, m, k, l) {
-        return judged_report(letters, symbols, wide, n, i, j, m, k, l);
+    let next = j as usize;
+    let matched = m as usize;
+    let other_next = k as usize;
+    let other_matched = l as usize;
+    if are_within(n, i, next, matched, other_next, other_matched) {
+        return judged_report(
+            letters,
+            symbols,
+            wide,
+            n,
+            i,
+            next,
+            matched,
+            other_next,
+            other_matched,
+        );
     }
     no_run()
 }

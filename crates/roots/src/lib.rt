@@ -16,18 +16,11 @@ use refusal::Refusal;
 use root_runs::report_of;
 use run_list::insert;
 
-// An entry as an index.
-fn index(x: u32) -> usize
-    ensures { λ r. ⌜ r ≡ x ⌝ }
-{
-    x as usize
-}
-
-fn read(table: &[u32], i: usize) -> usize
+fn read(table: &[u32], i: usize) -> u32
     requires { ⌜ i < length (now table) ⌝ }
     ensures { λ r. ⌜ r ≡ getD (now (table .entry)) i 0 ⌝ }
 {
-    index(table[i])
+    table[i]
 }
 
 // 0 in three tables from a place on.

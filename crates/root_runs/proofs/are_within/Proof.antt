@@ -14,4 +14,4 @@ returns-3 : tie.Need-returns-3
 returns-3 c = first-outside _ _ _ _ _ _ (omega arith) (c .before .is-within .ensures) (c .if2 .left)
 
 pub are-within-spec : {M : Type 1} → statement M
-are-within-spec = tie.close (tie.spec returns (λ c κs. tt) (λ c κs. tt) returns-2 returns-3)
+are-within-spec = tie.close (tie.spec returns (λ c κs. (c .before .pre .0, c .before .pre .1)) (λ c κs. let s = c .before .before .before in (s .pre .2, s .pre .3)) returns-2 returns-3)

@@ -2,6 +2,7 @@
 use mathlib.Core.Path.{sym}
 use mathlib.Core.List.{List}
 use Prim.Native.Nat.{ℕ}
+use native.Mathlib.Omega.{arith}
 use Rattle.ranks.specs.Ranks.{stringOf}
 use Rattle.root_runs.proofs.Bounds.{both-told, reported-within, none-outside}
 use Rattle.root_runs.proofs.report_of.Statement.{statement}
@@ -32,4 +33,4 @@ returns-2 c =
     none-outside (y (start t)) (g .i) (g .j) (g .m) (g .k) (g .l) (t .before .string-length .ensures) (t .are-within .ensures) (c .before .if1 .left) (c .no-run .ensures)
 
 pub report-of-spec : {M : Type 1} → statement M
-report-of-spec = tie.close (tie.spec (λ c κs. tt) (λ c κs. tt) judged-report-requires returns (λ c κs. tt) returns-2)
+report-of-spec = tie.close (tie.spec (λ c κs. tt) (λ c κs. (omega arith, omega arith, omega arith, omega arith)) judged-report-requires returns (λ c κs. tt) returns-2)
