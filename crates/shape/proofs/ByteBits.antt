@@ -47,7 +47,7 @@ bytes-bit g m k h =
     rw (tabulate-entry (byteOf g) m (k / 8) (omega arith), weighted (λ i. g (8 * (k / 8) + i)) (k % 8) (omega arith), digit-bit, z)
 
 -- a byte is the sum of its weighted digits
-bit-digit : (b i : ℕ) → digit (byteBit b i) ≡ b / 2 ^ i % 2
+pub bit-digit : (b i : ℕ) → cond (byteBit b i) 1 0 ≡ b / 2 ^ i % 2
 unfolding byteBit
 bit-digit b i = go (b / 2 ^ i % 2) (omega arith)
   where

@@ -2,7 +2,7 @@
 use mathlib.Core.Path.{_≡_, sym, _∙_}
 use mathlib.Core.Logic.{_≢_}
 use mathlib.Core.Bool.{true, false, cond}
-use mathlib.Core.List.{List}
+use mathlib.Core.List.{List, _∷_}
 use Prim.Native.Nat.{ℕ, _≤_}
 use native.Mathlib.Omega.{arith}
 use lib.Dec.{eqb, ltb}
@@ -10,7 +10,8 @@ use lib.ListN.{length}
 use borrow.Author.Tests.{eq-eqb, ne-eqb, ltb-false}
 use Rattle.suffix.specs.Tree.{treeLength}
 use Rattle.suffix.proofs.Cases.{Same, same, other, same?, Test, holds, fails, test}
-use Rattle.refusal.specs.Numbers.{firstOf}
+use Rattle.refusal.specs.declared.Refusal.the-variants.{SizeOutside}
+use Rattle.refusal.specs.Numbers.{firstOf, numberIf}
 use Rattle.refusal.specs.Conditions.{flawNumber, treeRefusal}
 use Rattle.refusal.proofs.Numbers.{neither, first-only, unless-taken, unless-refused}
 use Rattle.shape.proofs.Conditions.{tree-3, tree-flaw}
@@ -20,10 +21,30 @@ use Rattle.small_trees.specs.Answers.{sizeOutside, firstRefusal, firstAt
 pub inside : (n : ℕ) → sizeOutside n ≡ false → n ≤ 12
 inside n e = ltb-false 12 n (neither (eqb n 0) (ltb 12 n) e .1)
 
+-- the test of the size comes first, whatever the others
+module _ (n : ℕ) (others : List ℕ) where
+  refusal : ℕ
+  refusal = firstOf (numberIf (sizeOutside n) SizeOutside ∷ others)
+
+  outside-14 : sizeOutside n ≡ true → refusal ≡ 14
+  unfolding refusal firstOf
+  outside-14 e = rw e
+
+  taken-inside : refusal ≡ 0 → sizeOutside n ≡ false
+  taken-inside e = go (test (sizeOutside n))
+    where
+      go : Test (sizeOutside n) → sizeOutside n ≡ false
+      go (holds z) = absurd (omega (arith, outside-14 z))
+      go (fails z) = z
+
 module _ (n m : ℕ) where
   pub first-14 : sizeOutside n ≡ true → firstRefusal n m ≡ 14
-  unfolding firstRefusal firstOf
-  first-14 e = rw e
+  unfolding firstRefusal refusal
+  first-14 = outside-14 n _
+
+  pub first-inside : firstRefusal n m ≡ 0 → sizeOutside n ≡ false
+  unfolding firstRefusal refusal
+  first-inside = taken-inside n _
 
   module _ (e : sizeOutside n ≡ false) where
     pub first-3 : m ≢ treeLength n → firstRefusal n m ≡ 3
@@ -36,8 +57,12 @@ module _ (n m : ℕ) where
 
 module _ (n : ℕ) (t : List ℕ) where
   pub next-14 : sizeOutside n ≡ true → nextRefusal n t ≡ 14
-  unfolding nextRefusal firstOf
-  next-14 e = rw e
+  unfolding nextRefusal refusal
+  next-14 = outside-14 n _
+
+  pub next-inside : nextRefusal n t ≡ 0 → sizeOutside n ≡ false
+  unfolding nextRefusal refusal
+  next-inside = taken-inside n _
 
   -- the rest is the verdict on the tree
   pub next-tree : sizeOutside n ≡ false → nextRefusal n t ≡ treeRefusal n t
@@ -50,21 +75,6 @@ module _ (n : ℕ) (t : List ℕ) where
       go : Same (length t) (treeLength n) → nextRefusal n t ≡ treeRefusal n t
       go (same z) = rw (e, eq-eqb (length t) (treeLength n) z) (first-only (flawNumber n t) ∙ sym (tree-flaw n t small z))
       go (other z) = rw (e, ne-eqb (length t) (treeLength n) z) (sym (tree-3 n t small z))
-
--- where nothing is refused, the size is one of 1 to 12
-pub first-inside : (n m : ℕ) → firstRefusal n m ≡ 0 → sizeOutside n ≡ false
-first-inside n m e = go (test (sizeOutside n))
-  where
-    go : Test (sizeOutside n) → sizeOutside n ≡ false
-    go (holds z) = absurd (omega (arith, first-14 n m z))
-    go (fails z) = z
-
-pub next-inside : (n : ℕ) (t : List ℕ) → nextRefusal n t ≡ 0 → sizeOutside n ≡ false
-next-inside n t e = go (test (sizeOutside n))
-  where
-    go : Test (sizeOutside n) → sizeOutside n ≡ false
-    go (holds z) = absurd (omega (arith, next-14 n t z))
-    go (fails z) = z
 
 -- ---- what is left
 

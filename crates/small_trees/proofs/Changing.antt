@@ -5,7 +5,7 @@ use mathlib.Core.List.{List}
 use Prim.Native.Nat.{ℕ, zero, suc, _+_, _-_, _*_, _/_, _%_, _^_, _≤_, _<_, min}
 use native.Mathlib.Nat.{two-pow-succ, pow-le-pow-right, one-le-pow, mod-lt}
 use native.Mathlib.Omega.{arith}
-use lib.Dec.{eqb, ltb}
+use lib.Dec.{ltb}
 use lib.ListN.{length, getD, set, length-set}
 use lib.Seq.{getD-set-same, getD-set-other}
 use borrow.Author.Tests.{lt-ltb, le-ltb, le-leb, lt-leb}
@@ -14,7 +14,7 @@ use Rattle.suffix.specs.Tree.{byteOf}
 use Rattle.suffix.proofs.Cases.{Tri, lt, eq, gt, tri, Same, same, other, same?}
 use Rattle.suffix.proofs.Search.{sum-same, tabulate-is}
 use Rattle.refusal.specs.Conditions.{byteBit, bitOf}
-use Rattle.shape.proofs.ByteBits.{byte-is}
+use Rattle.shape.proofs.ByteBits.{bit-digit, byte-is}
 use Rattle.small_trees.specs.Steps.{changedBit, changedTree}
 
 module _ (was : Bool) (k from to q : ℕ) where
@@ -47,15 +47,6 @@ mod-more b (suc (suc (suc (suc (suc zero))))) h = omega arith
 mod-more b (suc (suc (suc (suc (suc (suc zero)))))) h = omega arith
 mod-more b (suc (suc (suc (suc (suc (suc (suc zero))))))) h = omega arith
 mod-more b (suc (suc (suc (suc (suc (suc (suc (suc m)))))))) h = absurd (omega arith)
-
-bit-value : (b m : ℕ) → cond (byteBit b m) 1 0 ≡ b / 2 ^ m % 2
-unfolding byteBit
-bit-value b m = go (b / 2 ^ m % 2) (omega arith)
-  where
-    go : (v : ℕ) → v < 2 → cond (eqb v 1) 1 0 ≡ v
-    go zero h = refl
-    go (suc zero) h = refl
-    go (suc (suc v)) h = absurd (omega arith)
 
 pub weight-fits : (m : ℕ) {u : ℕ} → u ≡ 2 ^ min m 8 → (0 < u) × (u ≤ 256)
 weight-fits m e = rw e (one-le-pow (min m 8) 2 (omega arith), pow-le-pow-right {n = 2} (omega arith) {i = min m 8} {j = 8} (omega arith))
@@ -97,7 +88,7 @@ module _ (byte j k from to : ℕ) (f : k ≤ from) (g : from ≤ to) where
           let b = inside from m (omega arith) (omega arith) in
           let c = inside to m (omega arith) (omega arith) in
           let y : (8 * j + m) % 8 ≡ m = omega arith in
-          let e : cond (bits (8 * j + m)) 1 0 ≡ byte / 2 ^ m % 2 = ap (λ v. cond v 1 0) (changed-before (byteBit byte ((8 * j + m) % 8)) k from to (8 * j + m) w ∙ ap (byteBit byte) y) ∙ bit-value byte m in
+          let e : cond (bits (8 * j + m)) 1 0 ≡ byte / 2 ^ m % 2 = ap (λ v. cond v 1 0) (changed-before (byteBit byte ((8 * j + m) % 8)) k from to (8 * j + m) w ∙ ap (byteBit byte) y) ∙ bit-digit byte m in
           rw (a .1, b .1, c .1, e) (omega (arith, mod-more byte m (omega arith), rw (a .0, b .0, c .0) at ih))
 
       low : k ≤ 8 * j + m → 8 * j + m < from → Ih → Goal

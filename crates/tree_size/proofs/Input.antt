@@ -1,23 +1,18 @@
 -- The size that the input is.
-use mathlib.Core.Path.{_≡_, refl, sym}
+use mathlib.Core.Path.{_≡_, refl}
 use mathlib.Core.Logic.{_≢_}
-use mathlib.Core.Bool.{Bool, true, false, true≢false, _&&_}
+use mathlib.Core.Bool.{Bool, true, false, _&&_}
 use mathlib.Core.List.{List, [], _∷_}
 use Prim.Native.Nat.{ℕ, _+_, _-_, _*_, _≤_}
 use native.Mathlib.Omega.{arith}
 use lib.Dec.{leb, eqb}
 use lib.ListN.{length, getD}
 use borrow.Author.Tests.{leb-true, eq-eqb, ne-eqb}
-use Rattle.suffix.proofs.Cases.{Test, holds, fails, test}
+use Rattle.suffix.proofs.Cases.{Test, holds, fails, test, both-true}
 use Rattle.tree_size.specs.Size.{isDigit, oneDigit, twoDigits, sizeIn}
 
-both : (a b : Bool) → a && b ≡ true → (a ≡ true) × (b ≡ true)
-both true true e = (refl, refl)
-both true false e = absurd (true≢false (sym e))
-both false b e = absurd (true≢false (sym e))
-
 pub digit-low : (a : ℕ) → isDigit a ≡ true → 48 ≤ a
-digit-low a e = leb-true 48 a (both (leb 48 a) (leb a 57) e .0)
+digit-low a e = leb-true 48 a (both-true (leb 48 a) (leb a 57) e .0)
 
 pub one-is : (a : ℕ) → isDigit a ≡ true → oneDigit a ≡ a - 48
 one-is a e = rw e
@@ -29,7 +24,7 @@ pub one-most : (a : ℕ) → oneDigit a ≤ 9
 one-most a = go (test (isDigit a))
   where
     go : Test (isDigit a) → oneDigit a ≤ 9
-    go (holds e) = omega (arith, one-is a e, leb-true a 57 (both (leb 48 a) (leb a 57) e .1))
+    go (holds e) = omega (arith, one-is a e, leb-true a 57 (both-true (leb 48 a) (leb a 57) e .1))
     go (fails e) = omega (arith, one-none a e)
 
 pub two-are : (a b : ℕ) → isDigit a ≡ true → isDigit b ≡ true → twoDigits a b ≡ 10 * oneDigit a + oneDigit b
@@ -52,7 +47,7 @@ two-most : (a b : ℕ) → twoDigits a b ≤ 99
 two-most a b = go (test (isDigit a && isDigit b))
   where
     go : Test (isDigit a && isDigit b) → twoDigits a b ≤ 99
-    go (holds e) = let w = both (isDigit a) (isDigit b) e in omega (arith, two-are a b (w .0) (w .1), one-most a, one-most b)
+    go (holds e) = let w = both-true (isDigit a) (isDigit b) e in omega (arith, two-are a b (w .0) (w .1), one-most a, one-most b)
     go (fails e) = omega (arith, two-none a b e)
 
 -- ---- by the input's length

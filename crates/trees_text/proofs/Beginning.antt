@@ -50,3 +50,19 @@ module _ {n : ℕ} {buffer tree : List ℕ} {number : ℕ} (F : FirstGiven n buf
         stop = sym (unless-refused r (isLast n (firstTree n)) true f);
         leaves = F .leaves ∙ sym (first-left n buffer f) ∙ sym (unless-refused r (nextTree n (firstTree n)) buffer f);
       }
+
+-- what the first line tells
+module _ {n : ℕ} {buffer after text textAfter : List ℕ} {line : Line} (b : Begun n buffer after text textAfter line) where
+  abbrev q : ℕ
+  q = firstRefusal n (length buffer)
+
+  pub begun-made : q ≡ 0 → LineMade n (firstTree n) after text textAfter line
+  begun-made z =
+      record {
+        text = rw (unless-taken q (lineText n (firstTree n)) noSizeText z) at (b .text);
+        stop = b .stop ∙ unless-taken q (isLast n (firstTree n)) true z;
+        leaves = b .leaves ∙ unless-taken q (nextTree n (firstTree n)) buffer z;
+      }
+
+  pub begun-no-size : q ≢ 0 → Put text textAfter noSizeText 0 (line .length) × (line .last ≡ true)
+  begun-no-size z = (rw (unless-refused q (lineText n (firstTree n)) noSizeText z) at (b .text), b .stop ∙ unless-refused q (isLast n (firstTree n)) true z)

@@ -7,7 +7,6 @@ use native.Mathlib.Omega.{arith}
 use lib.ListN.{length, getD, take}
 use Rattle.suffix.specs.Tree.{treeLength}
 use Rattle.suffix.proofs.Cases.{Same, same, other, same?}
-use Rattle.refusal.proofs.Numbers.{unless-taken, unless-refused}
 use Rattle.writing.specs.Writing.{Put}
 use Rattle.writing.proofs.Writes.{put-fits}
 use Rattle.all_trees.specs.Trees.{treesOf, firstTree, nextTree, isLast}
@@ -18,6 +17,7 @@ use Rattle.small_trees.proofs.Laws.{goingOnReachesEach}
 use Rattle.tree_size.specs.Size.{sizeIn}
 use Rattle.trees_text.specs.Text.{lineText, linesText, noSizeText, sizeText, programText}
 use Rattle.trees_text.specs.Claims.{reachedText, TextIsOfGoingOn, OtherSizesAreNone, LinesAfter, none, line, LinesMadeAreTheText}
+use Rattle.trees_text.proofs.Beginning.{begun-made, begun-no-size}
 use Rattle.trees_text.proofs.Lines.{listed-most, text-lines, text-none}
 
 -- up to any line
@@ -67,16 +67,11 @@ linesMadeAreTheText n buffer printed e P = P .is ∙ go (same? (firstRefusal n (
   where
     go : Same (firstRefusal n (length buffer)) 0 → take (P .made .length) (P .text) ++ P .others ≡ sizeText n
     go (same z) =
-        let r = firstRefusal n (length buffer) in
         let s = first-inside n (length buffer) z in
-        let f = listed-most n s 0 (some-tree n) .1 in
-        let p = rw (unless-taken r (lineText n (firstTree n)) noSizeText z) at (P .begun .text) in
-        ap (_++ P .others) (put-whole p (omega (arith, f, P .room)))
-        ∙ lines-after n 0 s (some-tree n) (P .begun .leaves ∙ unless-taken r (nextTree n (firstTree n)) buffer z) (P .begun .stop ∙ unless-taken r (isLast n (firstTree n)) true z) (P .rest)
+        let m = begun-made (P .begun) z in
+        ap (_++ P .others) (put-whole (m .text) (omega (arith, listed-most n s 0 (some-tree n) .1, P .room)))
+        ∙ lines-after n 0 s (some-tree n) (m .leaves) (m .stop) (P .rest)
         ∙ sym (text-lines n s)
     go (other z) =
-        let r = firstRefusal n (length buffer) in
-        let p = rw (unless-refused r (lineText n (firstTree n)) noSizeText z) at (P .begun .text) in
-        ap₂ _++_ (put-whole p (omega (arith, P .room))) (none-after (P .begun .stop ∙ unless-refused r (isLast n (firstTree n)) true z) (P .rest))
-        ∙ append-nil noSizeText
-        ∙ sym (text-none n (rw e at z))
+        let w = begun-no-size (P .begun) z in
+        ap₂ _++_ (put-whole (w .0) (omega (arith, P .room))) (none-after (w .1) (P .rest)) ∙ append-nil noSizeText ∙ sym (text-none n (rw e at z))

@@ -8,16 +8,16 @@ use native.Mathlib.Omega.{arith}
 use lib.ListN.{length, getD}
 use Rattle.suffix.specs.Tree.{treeLength}
 use Rattle.suffix.proofs.Cases.{Same, same, other, same?}
-use Rattle.refusal.proofs.Numbers.{unless-taken, unless-refused}
 use Rattle.writing.proofs.Writes.{put-fits}
 use Rattle.all_trees.specs.Trees.{treesOf, firstTree, nextTree, isLast}
 use Rattle.all_trees.proofs.Laws.{some-tree, next-is, last-ends, not-last-goes-on}
 use Rattle.small_trees.specs.Answers.{sizeOutside, firstRefusal, nextRefusal}
 use Rattle.small_trees.proofs.Answering.{first-inside}
 use Rattle.small_trees.proofs.Laws.{listed-taken}
-use Rattle.trees_text.specs.Text.{lineText, linesText, noSizeText, sizeText}
+use Rattle.trees_text.specs.Text.{lineText, linesText, sizeText}
 use Rattle.trees_text.specs.Lines.{LineMade, Begun}
 use Rattle.trees_text.specs.declared.Line.{Line}
+use Rattle.trees_text.proofs.Beginning.{begun-made, begun-no-size}
 use Rattle.trees_text.proofs.Lines.{listed-most, lines-more, lines-few, lines-up, text-lines, text-none}
 
 abbrev treeAt : ℕ → ℕ → List ℕ
@@ -74,13 +74,9 @@ running-start {n} {buffer} {after} {line = line} e x b = go (same? (firstRefusal
   where
     go : Same (firstRefusal n (length buffer)) 0 → Running n 0 line after
     go (same z) =
-        let r = firstRefusal n (length buffer) in
         let i = first-inside n (length buffer) z in
-        let p = rw (unless-taken r (lineText n (firstTree n)) noSizeText z) at (b .text) in
-        at 0 i (some-tree n) refl (omega (arith, put-fits p (omega (arith, listed-most n i 0 (some-tree n))) .size))
-        (b .stop ∙ unless-taken r (isLast n (firstTree n)) true z)
-        (b .leaves ∙ unless-taken r (nextTree n (firstTree n)) buffer z)
+        let m = begun-made b z in
+        at 0 i (some-tree n) refl (omega (arith, put-fits (m .text) (omega (arith, listed-most n i 0 (some-tree n))) .size)) (m .stop) (m .leaves)
     go (other z) =
-        let r = firstRefusal n (length buffer) in
-        let p = rw (unless-refused r (lineText n (firstTree n)) noSizeText z) at (b .text) in
-        none (rw e at z) refl (put-fits p (omega arith) .size) (b .stop ∙ unless-refused r (isLast n (firstTree n)) true z)
+        let w = begun-no-size b z in
+        none (rw e at z) refl (put-fits (w .0) (omega arith) .size) (w .1)
