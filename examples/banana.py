@@ -7,7 +7,7 @@ U32, SIZE = ctypes.c_uint32, ctypes.c_size_t
 
 
 class BuildReply(ctypes.Structure):
-    _fields_ = [("refusal", U32), ("finished", U32), ("rows", SIZE), ("equal", SIZE), ("unequal", SIZE), ("ends", SIZE), ("reach", SIZE)]
+    _fields_ = [("refusal", U32), ("finished", U32), ("rows", SIZE), ("equal", SIZE), ("unequal", SIZE), ("reach", SIZE)]
 
 
 class Reply(ctypes.Structure):
@@ -22,7 +22,7 @@ def arguments(lists):
 library = ctypes.CDLL(sys.argv[1])
 library.lyndon_build.restype = BuildReply
 library.lyndon_runs.restype = Reply
-assert library.lyndon_version() == 8, "another version of the library than this program is written for"
+assert library.lyndon_version() == 7, "another version of the library than this program is written for"
 
 letters = b"banana"
 n = len(letters)
@@ -31,7 +31,6 @@ tree = (ctypes.c_uint8 * ((n + 3) // 4))()
 built = library.lyndon_build(letters, SIZE(n), SIZE(n), *arguments([*tables, tree]))
 if built.refusal != 0:
     sys.exit(f"refused {built.refusal}")
-assert (built.rows, built.equal, built.unequal, built.ends, built.reach) == (6, 3, 3, 2, 6)
 for i in range(n):
     print(i, previous[i], following[i])
 print(bytes(tree).hex())

@@ -20,10 +20,9 @@
  * Positions that hang under the same one stand left to right, and between its brackets; so the i-th opening, from 0, is that of
  * position i. Bit k is in byte k / 8 with weight 2 to the power k mod 8. The tree fills ceil(n / 4) bytes, whose spare bits are 0.
  *
- * The counts in a build's reply are those of the reuse steps: row by row from position 0 on, two letters are compared only where a
- * match cannot be copied from one that an earlier row recorded. A scan compares letters while they are equal, and stops at the first
- * two that are not, or where it meets the end of the string, which is no comparison. docs/STEPS.md of the repository has the steps one
- * by one.
+ * The counts of comparisons in a build's reply are those of the reuse steps: row by row from position 0 on, two letters are
+ * compared only where a match cannot be copied from one that an earlier row recorded. docs/STEPS.md of the repository has them
+ * step by step.
  *
  * A run is a start, an end (exclusive) and a period p >= 1, with length at least 2 * p. Letters p apart inside it are equal, p is
  * its least period, and neither end can be moved out by one letter with p kept. Runs may overlap, and one may lie inside another. A
@@ -73,7 +72,7 @@ extern "C" {
 /* The version of this header: it rises when a function is added, and with every change of a structure or a function, of what it
  * answers too. A program whose LYNDON_VERSION is not what lyndon_version() returns was compiled against another header than the
  * archive's, and is to be compiled again. */
-#define LYNDON_VERSION 8
+#define LYNDON_VERSION 7
 
 /* The version of the archive. */
 uint32_t lyndon_version(void);
@@ -119,9 +118,7 @@ typedef struct LyndonBuildReply {
     size_t rows;       /* the rows done: always the rows asked */
     size_t equal;      /* the comparisons that the reuse steps make in these rows and that find two letters equal: 0 where
                           rows = 0, else at most reach - 1 */
-    size_t unequal;    /* those that find them unequal: 0 where rows = 0 */
-    size_t ends;       /* the scans of the reuse steps that stop at the end of the string, and not at two unequal letters; one that
-                          starts there is among them: 0 where rows = 0, else unequal + ends is at most 2 * (rows - 1) */
+    size_t unequal;    /* those that find them unequal: 0 where rows = 0, else at most 2 * (rows - 1) */
     size_t reach;      /* the greatest of 1 and r + match(l, r) over the pairs l < r < rows with next[l] = r or previous[r] = l;
                           0 where rows = 0; never above n */
 } LyndonBuildReply;

@@ -199,7 +199,6 @@ impl Buffers {
             rows: built.rows,
             equal: built.equal,
             unequal: built.unequal,
-            ends: built.ends,
             reach: built.reach,
         }
     }
@@ -239,25 +238,22 @@ fn compare_builds<L: Letter>(kinds: &Kinds<L>) {
     }
 }
 
-/// The library's median nanoseconds a letter, and equal and unequal comparisons and end stops a letter, for
-/// each kind of string.
+/// The library's median nanoseconds a letter, and equal and unequal comparisons a letter, for each kind
+/// of string.
 fn costs(n: usize) -> Vec<(&'static str, String)> {
     let mut buffers = Buffers::new(n);
     let mut cost = |letters: &[u8]| {
-        let mut counts = [0; 3];
+        let mut counts = [0; 2];
         let times = (0..BUILD_ROUNDS).map(|_| {
             let start = thread_time();
             let built = buffers.build_by_library(black_box(letters));
             let time = thread_time() - start;
-            counts = [built.equal, built.unequal, built.ends];
+            counts = [built.equal, built.unequal];
             time * 1e6 / n as f64
         });
         let times = Times(times.collect());
-        let [equal, unequal, ends] = counts.map(|count| count as f64 / n as f64);
-        format!(
-            "{:.1} | {equal:.2} | {unequal:.2} | {ends:.2}",
-            times.median()
-        )
+        let [equal, unequal] = counts.map(|count| count as f64 / n as f64);
+        format!("{:.1} | {equal:.2} | {unequal:.2}", times.median())
     };
     let kinds = kinds_for_builds(&mut Random::new(42), n).into_iter();
     kinds
@@ -266,9 +262,9 @@ fn costs(n: usize) -> Vec<(&'static str, String)> {
 }
 
 fn measure_growth_of_builds() {
-    println!("\nHow the library's build grows: median nanoseconds, equal and unequal comparisons and end stops a letter.");
+    println!("\nHow the library's build grows: median nanoseconds, equal and unequal comparisons a letter.");
     let lengths = [10_000, 100_000, LETTERS];
-    let heads = lengths.map(|n| format!("{n} letters: ns | equal | unequal | ends"));
+    let heads = lengths.map(|n| format!("{n} letters: ns | equal | unequal"));
     print_head(&format!("letters | {}", heads.join(" | ")));
     let columns = lengths.map(costs);
     for (k, (kind, _)) in columns[0].iter().enumerate() {

@@ -31,8 +31,7 @@
 //! assert_eq!(banana.next, [1, 3, 3, 5, 5, 6]);
 //! assert_eq!(banana.next_match, [0, 3, 0, 1, 0, 0]);
 //! assert_eq!(banana.tree, [0xcd, 0x04]);
-//! assert_eq!((banana.built.equal, banana.built.unequal, banana.built.ends), (3, 3, 2));
-//! assert_eq!(banana.built.reach, 6);
+//! assert_eq!((banana.built.equal, banana.built.unequal, banana.built.reach), (3, 3, 6));
 //!
 //! // The tree alone gives the tables back, and answers for one position.
 //! let (mut previous, mut next) = (vec![0; 6], vec![0; 6]);
@@ -221,12 +220,8 @@ pub struct Built {
     /// How often the reuse steps compare two letters in these rows and find them equal: at most
     /// `reach` - 1; 0 where no rows are asked.
     pub equal: usize,
-    /// How often they find them unequal; 0 where no rows are asked.
+    /// How often they find them unequal: at most 2 (`rows` - 1); 0 where no rows are asked.
     pub unequal: usize,
-    /// How many of their scans stop at the end of the string, and not at two unequal letters; a scan that
-    /// starts at the end is one of them. `unequal` and `ends` together are at most 2 (`rows` - 1); 0 where no
-    /// rows are asked.
-    pub ends: usize,
     /// The greatest of 1 and r + match(l, r) over the pairs l < r < rows with next\[l\] = r or
     /// previous\[r\] = l, never above n; 0 where no rows are asked. match(l, r) is the number of
     /// leading letters that the suffixes at l and r share.
@@ -241,7 +236,6 @@ fn built(reply: raw::BuildReply) -> Result<Built, Refusal> {
         rows: reply.rows,
         equal: reply.equal,
         unequal: reply.unequal,
-        ends: reply.ends,
         reach: reply.reach,
     })
 }

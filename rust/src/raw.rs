@@ -2,7 +2,7 @@
 //! as a pointer and a length. `include/lyndon.h` declares the same.
 
 /// The version of these declarations, `LYNDON_VERSION` in the header. [`lyndon_version`] returns that of the archive.
-pub const VERSION: u32 = 8;
+pub const VERSION: u32 = 7;
 
 /// The answer of [`lyndon_build`] and [`lyndon_build32`].
 #[repr(C)]
@@ -18,8 +18,6 @@ pub struct BuildReply {
     pub equal: usize,
     /// Those that find them unequal.
     pub unequal: usize,
-    /// The scans of the reuse steps that stop at the end of the string.
-    pub ends: usize,
     /// The reach after these rows: see [`Built`](crate::Built).
     pub reach: usize,
 }

@@ -20,20 +20,15 @@ static int failed(const char *what)
     return 1;
 }
 
-/* Whether each member of a build's reply is where the header has it: no two of them are the same in both builds. All five figures of
- * baaaa at 4 rows are different, and none is 0. A build of all rows with an end stop has its reach at n, which is its rows. */
+/* Whether each member of a build's reply is where the header has it: those of aabaaab are all different. */
 static int members_agree(void)
 {
     static const uint8_t word[] = {'a', 'a', 'b', 'a', 'a', 'a', 'b'};
-    static const uint8_t other[] = {'b', 'a', 'a', 'a', 'a'};
     static uint32_t tables[4][7];
     static uint8_t brackets[2];
     LyndonBuildReply built = lyndon_build(word, 7, 7, tables[0], 7, tables[1], 7, tables[2], 7, tables[3], 7, brackets, 2);
-    LyndonBuildReply halted = lyndon_build(other, 5, 4, tables[0], 5, tables[1], 5, tables[2], 5, tables[3], 5, brackets, 2);
     return built.refusal == 0 && built.finished == 1 && built.rows == 7
-        && built.equal == 4 && built.unequal == 8 && built.ends == 0 && built.reach == 6
-        && halted.refusal == 0 && halted.finished == 0 && halted.rows == 4
-        && halted.equal == 3 && halted.unequal == 1 && halted.ends == 2 && halted.reach == 5;
+        && built.equal == 4 && built.unequal == 8 && built.reach == 6;
 }
 
 /* Whether the tree answers as the tables do. */
@@ -102,7 +97,7 @@ static int masked_agrees(void)
             return 0;
         }
     }
-    return built.refusal == 0 && built.equal == 3 && built.unequal == 3 && built.ends == 2 && built.reach == 6
+    return built.refusal == 0 && built.equal == 3 && built.unequal == 3 && built.reach == 6
         && are_banana(tables) && memcmp(brackets, tree, TREE_LENGTH) == 0;
 }
 
@@ -199,7 +194,7 @@ static int symbols_agree(void)
     }
     return refused.refusal == LYNDON_TOO_MANY_ROWS && refused.rows == 0 && outside.refusal == LYNDON_POSITION_OUTSIDE
         && built.refusal == 0 && built.finished == 1 && built.rows == N
-        && built.equal == 3 && built.unequal == 3 && built.ends == 2 && built.reach == 6
+        && built.equal == 3 && built.unequal == 3 && built.reach == 6
         && are_banana(tables) && memcmp(brackets, tree, TREE_LENGTH) == 0;
 }
 
@@ -292,7 +287,7 @@ int main(void)
         return failed("the versions of header and archive");
     }
     if (built.refusal != 0 || built.finished != 1 || built.rows != N || built.equal != 3 || built.unequal != 3
-        || built.ends != 2 || built.reach != 6) {
+        || built.reach != 6) {
         return failed("lyndon_build");
     }
     if (!members_agree()) {

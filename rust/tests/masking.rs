@@ -37,8 +37,8 @@ fn letters_compare_by_their_ranks() {
             let (left_rank, right_rank) = (left.rank(), right.rank());
             let equal = left_rank == right_rank;
             assert_eq!(
-                (pair.built.equal, pair.built.unequal, pair.built.ends),
-                (usize::from(equal), usize::from(!equal), usize::from(equal)),
+                (pair.built.equal, pair.built.unequal),
+                (usize::from(equal), usize::from(!equal)),
                 "{left} and {right}"
             );
             let tree = if left_rank < right_rank { 0x03 } else { 0x05 };

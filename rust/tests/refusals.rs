@@ -75,7 +75,6 @@ fn check_build<L: Letter>(
             rows: 0,
             equal: 0,
             unequal: 0,
-            ends: 0,
             reach: 0,
         };
         assert_eq!(lent.build_raw(letters, rows), zeros);
@@ -513,7 +512,6 @@ fn structures_in_memory_of_their_own() {
             rows: 0,
             equal: 0,
             unequal: 0,
-            ends: 0,
             reach: 0
         }
     );

@@ -21,16 +21,16 @@ fn whole(letters: &[u8]) -> Structure {
     structure
 }
 
-/// Equal comparisons, unequal ones, end stops, and reach.
-fn cost(structure: &Structure) -> (usize, usize, usize, usize) {
+/// Equal comparisons, unequal ones, and reach.
+fn cost(structure: &Structure) -> (usize, usize, usize) {
     let built = &structure.built;
-    (built.equal, built.unequal, built.ends, built.reach)
+    (built.equal, built.unequal, built.reach)
 }
 
 #[test]
 fn m1_the_empty_string() {
     let empty = whole(b"");
-    assert_eq!(cost(&empty), (0, 0, 0, 0));
+    assert_eq!(cost(&empty), (0, 0, 0));
     assert_eq!(empty.tree, []);
 }
 
@@ -41,7 +41,7 @@ fn m2_a() {
         (a.previous.as_slice(), a.next.as_slice()),
         ([1].as_slice(), [1].as_slice())
     );
-    assert_eq!(cost(&a), (0, 0, 0, 1));
+    assert_eq!(cost(&a), (0, 0, 1));
     assert_eq!(a.tree, [0x01]);
 }
 
@@ -50,7 +50,7 @@ fn m3_ab() {
     let ab = whole(b"ab");
     assert_eq!(ab.previous, [2, 0]);
     assert_eq!(ab.next, [2, 2]);
-    assert_eq!(cost(&ab), (0, 1, 0, 1));
+    assert_eq!(cost(&ab), (0, 1, 1));
     assert_eq!(ab.tree, [0x03]);
 }
 
@@ -59,7 +59,7 @@ fn m4_ba() {
     let ba = whole(b"ba");
     assert_eq!(ba.previous, [2, 2]);
     assert_eq!(ba.next, [1, 2]);
-    assert_eq!(cost(&ba), (0, 1, 0, 1));
+    assert_eq!(cost(&ba), (0, 1, 1));
     assert_eq!(ba.tree, [0x05]);
 }
 
@@ -69,7 +69,7 @@ fn m5_aab() {
     assert_eq!(aab.previous, [3, 0, 1]);
     assert_eq!(aab.next, [3, 3, 3]);
     assert_eq!(aab.previous_match, [0, 1, 0]);
-    assert_eq!(cost(&aab), (1, 2, 0, 2));
+    assert_eq!(cost(&aab), (1, 2, 2));
     assert_eq!(aab.tree, [0x07]);
 }
 
@@ -78,7 +78,7 @@ fn m6_aaaa() {
     let aaaa = whole(b"aaaa");
     assert_eq!(aaaa.next, [1, 2, 3, 4]);
     assert_eq!(aaaa.next_match, [3, 2, 1, 0]);
-    assert_eq!(cost(&aaaa), (3, 0, 3, 4));
+    assert_eq!(cost(&aaaa), (3, 0, 4));
     assert_eq!(aaaa.tree, [0x55]);
 }
 
@@ -88,7 +88,7 @@ fn m7_banana() {
     assert_eq!(banana.previous, [6, 6, 1, 6, 3, 6]);
     assert_eq!(banana.next, [1, 3, 3, 5, 5, 6]);
     assert_eq!(banana.next_match, [0, 3, 0, 1, 0, 0]);
-    assert_eq!(cost(&banana), (3, 3, 2, 6));
+    assert_eq!(cost(&banana), (3, 3, 6));
     assert_eq!(banana.tree, [0xcd, 0x04]);
 }
 
@@ -100,7 +100,7 @@ fn m8_banana_after_4_rows() {
     assert_eq!(banana.previous, [6, 6, 1, 6, 6, 6]);
     assert_eq!(banana.next, [1, 3, 3, 6, 6, 6]);
     assert_eq!(banana.next_match, [0, 3, 0, 0, 0, 0]);
-    assert_eq!(cost(&banana), (3, 3, 1, 6));
+    assert_eq!(cost(&banana), (3, 3, 6));
     assert_eq!(banana.tree, [0x4d, 0x00]);
 }
 
@@ -158,37 +158,18 @@ fn the_end_of_the_string_is_smaller_than_a_letter() {
     }
 }
 
-/// Strings that take more than reach - 2 equal comparisons, and more unequal ones and end stops together than
-/// rows - 1, though not more of either.
+/// Strings that take more than reach - 2 equal comparisons, and more than rows - 1 unequal ones.
 #[test]
 fn bounds_that_are_too_low() {
-    let (equal, _, _, reach) = cost(&whole(b"aa"));
-    assert!(equal > reach - 2);
-    let (_, unequal, ends, _) = cost(&whole(b"aba"));
-    let rows = 3;
-    assert!(unequal + ends > rows - 1 && unequal < rows && ends < rows);
-}
-
-/// The scans that stop at the end, after each number of rows. Of `aaaa` the scans of rows 2 and 3 start there; of
-/// `aabaaab` none meets it.
-#[test]
-fn end_stops_row_by_row() {
-    let ends = |letters: &[u8]| -> Vec<usize> {
-        (0..=letters.len())
-            .map(|rows| halted(letters, rows).built.ends)
-            .collect()
-    };
-    assert_eq!(ends(b"banana"), [0, 0, 0, 0, 1, 1, 2]);
-    assert_eq!(ends(b"aaaa"), [0, 0, 1, 2, 3]);
-    assert_eq!(ends(b"aba"), [0, 0, 0, 1]);
-    assert_eq!(ends(b"aabaaab"), [0; 8]);
+    assert_eq!(cost(&whole(b"aa")), (1, 0, 2));
+    assert_eq!(cost(&whole(b"acb")), (0, 3, 2));
 }
 
 /// Strings that show slips which M2 to M8 do not: a recorded match copied where it meets the reach, and
 /// wrong turns in step 4.
 #[test]
 fn further_strings() {
-    assert_eq!(cost(&whole(b"aabaaab")), (4, 8, 0, 6));
+    assert_eq!(cost(&whole(b"aabaaab")), (4, 8, 6));
     assert_eq!(whole(b"aabaabab").built.reach, 8);
     let aabaa = whole(b"aabaa");
     assert_eq!(aabaa.previous, [5, 0, 1, 5, 5]);

@@ -88,8 +88,8 @@ fn symbols_compare_as_numbers() {
         for &right in &symbols {
             let pair = Structure::of_symbols(&[left, right]).expect("two symbols");
             let equal = left == right;
-            let counts = (pair.built.equal, pair.built.unequal, pair.built.ends);
-            let expected = (usize::from(equal), usize::from(!equal), usize::from(equal));
+            let counts = (pair.built.equal, pair.built.unequal);
+            let expected = (usize::from(equal), usize::from(!equal));
             assert_eq!(counts, expected, "{left} and {right}");
             let tree = if left < right { 0x03 } else { 0x05 };
             assert_eq!(pair.tree, [tree], "{left} and {right}");

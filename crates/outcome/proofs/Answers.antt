@@ -13,7 +13,7 @@ use Rattle.refusal.specs.Numbers.{number_of}
 use Rattle.refusal.specs.Conditions.{build_refusal}
 use Rattle.refusal.proofs.Numbers.{positive}
 use Rattle.refusal.proofs.Tables.{build_taken}
-use Rattle.reuse.specs.Steps.{Progress, BuildState, after_rows, equal_comparisons, unequal_comparisons, end_stops}
+use Rattle.reuse.specs.Steps.{Progress, BuildState, after_rows, equal_comparisons, unequal_comparisons}
 use Rattle.reuse.specs.Claims.{Exact}
 use Rattle.reuse.proofs.Exact.{exact}
 use Rattle.outcome.specs.declared.Built.TheVariants.{Refused}
@@ -45,14 +45,14 @@ refusal_at y R before e =
     ap (λ n. build_refusal n R (length t.previous) (length t.next) (length t.previous_match) (length t.next_match) (length before.tree)) e
 
 -- the two answers of a build that is not refused, by what is told of its figures
-module _ (n rows equal unequal ends reached : ℕ) {rows' equal' unequal' ends' reached' : ℕ} where
-  pub at_n : rows ≡ n → rows' ≡ rows → equal' ≡ equal → unequal' ≡ unequal → ends' ≡ ends → reached' ≡ reached
-      → finished rows' equal' unequal' ends' reached' ≡ figures_at n rows equal unequal ends reached
-  at_n e a b c d f = rw (eq-eqb rows n e, figures_at, a, b, c, d, f)
+module _ (n rows equal unequal reached : ℕ) {rows' equal' unequal' reached' : ℕ} where
+  pub at_n : rows ≡ n → rows' ≡ rows → equal' ≡ equal → unequal' ≡ unequal → reached' ≡ reached
+      → finished rows' equal' unequal' reached' ≡ figures_at n rows equal unequal reached
+  at_n e a b c d = rw (eq-eqb rows n e, figures_at, a, b, c, d)
 
-  pub before_n : rows ≢ n → rows' ≡ rows → equal' ≡ equal → unequal' ≡ unequal → ends' ≡ ends → reached' ≡ reached
-      → halted rows' equal' unequal' ends' reached' ≡ figures_at n rows equal unequal ends reached
-  before_n e a b c d f = rw (ne_eqb rows n e, figures_at, a, b, c, d, f)
+  pub before_n : rows ≢ n → rows' ≡ rows → equal' ≡ equal → unequal' ≡ unequal → reached' ≡ reached
+      → halted rows' equal' unequal' reached' ≡ figures_at n rows equal unequal reached
+  before_n e a b c d = rw (ne_eqb rows n e, figures_at, a, b, c, d)
 
 module _ (y : List ℕ) (R : ℕ) (before : Lent) where
   abbrev n : ℕ
@@ -91,18 +91,15 @@ module _ (y : List ℕ) (R : ℕ) (before : Lent) where
       unequals : p.unequal ≡ unequal_comparisons y R
       unequals = ap (λ (b : BuildState). b.progress.unequal) i
 
-      end_stops : p.ends ≡ end_stops y R
-      end_stops = ap (λ (b : BuildState). b.progress.ends) i
-
       reached : p.reach ≡ reach y R
       reached = ap (λ (b : BuildState). b.progress.reach) i ∙ E.reached
 
-      pub built : {letters rows : ℕ} → letters ≡ n → rows ≡ R → {figures : Figures} → figures ≡ figures_at letters rows p.equal p.unequal p.ends p.reach
+      pub built : {letters rows : ℕ} → letters ≡ n → rows ≡ R → {figures : Figures} → figures ≡ figures_at letters rows p.equal p.unequal p.reach
           → BuiltExactly y R before after figures
       unfolding lent_after answer
       built e r f =
           record {
-            answers = f ∙ rw (e, r, equals, unequals, end_stops, reached, eq-eqb (refusal_of y R before) 0 taken, answer);
+            answers = f ∙ rw (e, r, equals, unequals, reached, eq-eqb (refusal_of y R before) 0 taken, answer);
             leaves = rw (left_built taken, ← q, ← tables);
             bounded = λ z. E.bounded;
           }

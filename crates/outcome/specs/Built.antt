@@ -5,7 +5,7 @@ use Rattle.suffix.specs.Tree.{tree_bytes}
 use Rattle.refusal.specs.declared.Verdict.{Verdict}
 use Rattle.refusal.specs.Numbers.{number_of, verdict_number, unless_refused}
 use Rattle.refusal.specs.Conditions.{build_refusal, tables_refusal}
-use Rattle.reuse.specs.Steps.{equal_comparisons, unequal_comparisons, end_stops}
+use Rattle.reuse.specs.Steps.{equal_comparisons, unequal_comparisons}
 use Rattle.reuse.specs.Claims.{Bounded}
 use Rattle.outcome.specs.declared.Built.{Built}
 use Rattle.outcome.specs.declared.Built.TheVariants.{Finished, Halted, Refused}
@@ -26,21 +26,20 @@ unfoldable pub lent_after : List ℕ → ℕ → Lent
 lent_after y R = record { tables = tables_after y R; tree = tree_bytes y R }
 
 -- "The answer is 'finished' when R = n, else 'halted', with rows done, comparisons and reach." T-02: "The build's record shall carry
--- equal and unequal comparisons as two numbers instead of their sum". T-10: "the build carries a third number", the scans that stopped
--- at the end. "A refusal carries its number and no other figure"
+-- equal and unequal comparisons as two numbers instead of their sum". "A refusal carries its number and no other figure"
 pub data Figures : Type 0 where
-  finished : (rows equal unequal ends reach : ℕ) → Figures
-  halted : (rows equal unequal ends reach : ℕ) → Figures
+  finished : (rows equal unequal reach : ℕ) → Figures
+  halted : (rows equal unequal reach : ℕ) → Figures
   refused : (number : ℕ) → Figures
 
 abbrev pub figures_of : Built → Figures
-figures_of (Finished r) = finished r.rows r.equal r.unequal r.ends r.reach
-figures_of (Halted r) = halted r.rows r.equal r.unequal r.ends r.reach
+figures_of (Finished r) = finished r.rows r.equal r.unequal r.reach
+figures_of (Halted r) = halted r.rows r.equal r.unequal r.reach
 figures_of (Refused k) = refused (number_of k)
 
 -- the figures of a build of n letters or symbols that is not refused
-abbrev pub figures_at : (n rows equal unequal ends reach : ℕ) → Figures
-figures_at n rows equal unequal ends reach = elim (eqb rows n) [ true ↦ finished rows equal unequal ends reach | false ↦ halted rows equal unequal ends reach ]
+abbrev pub figures_at : (n rows equal unequal reach : ℕ) → Figures
+figures_at n rows equal unequal reach = elim (eqb rows n) [ true ↦ finished rows equal unequal reach | false ↦ halted rows equal unequal reach ]
 
 -- the refusal of a build of R rows of y over this memory, or 0
 unfoldable pub refusal_of : List ℕ → ℕ → Lent → ℕ
@@ -52,7 +51,7 @@ refusal_of y R lent =
 unfoldable pub answer : List ℕ → ℕ → Lent → Figures
 answer y R lent =
     elim (eqb (refusal_of y R lent) 0) [
-      | true ↦ figures_at (length y) R (equal_comparisons y R) (unequal_comparisons y R) (end_stops y R) (reach y R)
+      | true ↦ figures_at (length y) R (equal_comparisons y R) (unequal_comparisons y R) (reach y R)
       | false ↦ refused (refusal_of y R lent)
     ]
 

@@ -10,7 +10,6 @@ pub struct Report {
     pub rows: usize,
     pub equal: usize,
     pub unequal: usize,
-    pub ends: usize,
     pub reach: usize,
 }
 
@@ -22,21 +21,13 @@ pub enum Built {
 }
 
 // The answer of a build of n letters or symbols that is not refused.
-pub fn answer(
-    n: usize,
-    rows: usize,
-    equal: usize,
-    unequal: usize,
-    ends: usize,
-    reach: usize,
-) -> Built
-    ensures { figures_of result ≡ figures_at n rows equal unequal ends reach }
+pub fn answer(n: usize, rows: usize, equal: usize, unequal: usize, reach: usize) -> Built
+    ensures { figures_of result ≡ figures_at n rows equal unequal reach }
 {
     let report = Report {
         rows,
         equal,
         unequal,
-        ends,
         reach,
     };
     if rows == n {

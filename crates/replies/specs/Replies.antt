@@ -24,9 +24,9 @@ pub record Replied {Figures Structure : Type 0} (replyOf : Figures → Structure
 
 -- "A refusal carries its number and no other figure": the others are 0
 abbrev pub build_reply : build.Figures → BuildReply
-build_reply (build.finished rows equal unequal ends reach) = record { refusal = 0; finished = 1; rows = rows; equal = equal; unequal = unequal; ends = ends; reach = reach }
-build_reply (build.halted rows equal unequal ends reach) = record { refusal = 0; finished = 0; rows = rows; equal = equal; unequal = unequal; ends = ends; reach = reach }
-build_reply (build.refused number) = record { refusal = number; finished = 0; rows = 0; equal = 0; unequal = 0; ends = 0; reach = 0 }
+build_reply (build.finished rows equal unequal reach) = record { refusal = 0; finished = 1; rows = rows; equal = equal; unequal = unequal; reach = reach }
+build_reply (build.halted rows equal unequal reach) = record { refusal = 0; finished = 0; rows = rows; equal = equal; unequal = unequal; reach = reach }
+build_reply (build.refused number) = record { refusal = number; finished = 0; rows = 0; equal = 0; unequal = 0; reach = 0 }
 
 -- an answer that is one number: a question put to a tree, the report of all runs
 unfoldable pub reply : refusal.Figures → Reply

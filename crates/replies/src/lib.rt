@@ -13,7 +13,7 @@ use refusal::Answer;
 use small_trees::Step;
 
 // LYNDON_VERSION of the header.
-const VERSION: u32 = 8;
+const VERSION: u32 = 7;
 
 pub fn version() -> u32
     ensures { result ≡ interface_version }
@@ -29,7 +29,6 @@ pub struct BuildReply {
     pub rows: usize,
     pub equal: usize,
     pub unequal: usize,
-    pub ends: usize,
     pub reach: usize,
 }
 
@@ -83,7 +82,6 @@ pub fn build_reply(built: Built) -> BuildReply
             rows: k.rows,
             equal: k.equal,
             unequal: k.unequal,
-            ends: k.ends,
             reach: k.reach,
         },
         Built::Halted(k) => BuildReply {
@@ -92,7 +90,6 @@ pub fn build_reply(built: Built) -> BuildReply
             rows: k.rows,
             equal: k.equal,
             unequal: k.unequal,
-            ends: k.ends,
             reach: k.reach,
         },
         Built::Refused(k) => BuildReply {
@@ -101,7 +98,6 @@ pub fn build_reply(built: Built) -> BuildReply
             rows: 0,
             equal: 0,
             unequal: 0,
-            ends: 0,
             reach: 0,
         },
     }

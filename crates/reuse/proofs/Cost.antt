@@ -1,5 +1,4 @@
--- What the comparisons and end stops may be: an equal comparison raises the reach; an unequal one, or the end, stops a scan, which settles a pair, and
--- this is then recorded.
+-- What the comparisons may cost: an equal one raises the reach; an unequal one ends a scan, which settles a pair, and this is then recorded.
 use mathlib.Core.Path.{◌≡◌, sym, ap, ◌∙◌}
 use mathlib.Core.Logic.{◌≢◌}
 use mathlib.Core.Bool.{Bool, false, not}
@@ -60,23 +59,23 @@ pairs_most none t = omega (arith, all t.previous, all t.next)
     all : (l : List ℕ) → some_entries none l ≤ length l
     all l = entries_most none l (length l) (omega arith) (λ k a b. absurd (omega arith))
 
--- what they may be, where so many settled pairs are not yet recorded
+-- what the comparisons may be, where so many settled pairs are not yet recorded
 pub record Cost (none : ℕ) (s : Progress) (t : Tables) (unrecorded : ℕ) : Type 0 where
   pub equal : s.equal < s.reach
-  pub stops : s.unequal + s.ends ≤ recorded_pairs none t + unrecorded
+  pub unequal : s.unequal ≤ recorded_pairs none t + unrecorded
 
 module _ {none : ℕ} {s : Progress} {t : Tables} {unrecorded : ℕ} (i v m : ℕ) where
   pub cost_next : i < length t.next → get_or t.next i 0 ≡ none → v ≢ none → Cost none s t (suc unrecorded) → Cost none s (record_next t i v m) unrecorded
   unfolding record_next
-  cost_next h e d C = record { equal = C.equal; stops = omega (arith, C.stops, entries_new none t.next i v h e d) }
+  cost_next h e d C = record { equal = C.equal; unequal = omega (arith, C.unequal, entries_new none t.next i v h e d) }
 
   pub cost_previous : i < length t.previous → get_or t.previous i 0 ≡ none → v ≢ none → Cost none s t (suc unrecorded) → Cost none s (record_previous t i v m) unrecorded
   unfolding record_previous
-  cost_previous h e d C = record { equal = C.equal; stops = omega (arith, C.stops, entries_new none t.previous i v h e d) }
+  cost_previous h e d C = record { equal = C.equal; unequal = omega (arith, C.unequal, entries_new none t.previous i v h e d) }
 
 -- a store of none in place of none
 pub cost_none : {none : ℕ} {s : Progress} {t : Tables} {unrecorded : ℕ} (i m : ℕ) → get_or t.previous i 0 ≡ none → Cost none s t unrecorded → Cost none s (record_previous t i none m) unrecorded
 unfolding record_previous
 cost_none {none} {s} {t} i m e C =
     let z : set t.previous i none ≡ t.previous = ap (set t.previous i) (sym e) ∙ set-get_or t.previous i 0 in
-    record { equal = C.equal; stops = rw z C.stops }
+    record { equal = C.equal; unequal = rw z C.unequal }

@@ -16,7 +16,7 @@ use Rattle.suffix.proofs.Order.{extended, lce_is}
 use Rattle.suffix.proofs.Nearest.{previous_none, next_at_lem}
 use Rattle.suffix.proofs.Rows.{previous_after_in, previous_after_out, previous_match_after_in, previous_match_after_out, previous_match_none, next_after_out, next_match_after_out}
 use Rattle.suffix.proofs.Reach.{reach_most, reach_least, reach_one}
-use Rattle.reuse.specs.Steps.{BuildState, ended, advances, state_of, row_start, row, start, after_rows, equal_comparisons, unequal_comparisons, end_stops}
+use Rattle.reuse.specs.Steps.{BuildState, ended, advances, state_of, row_start, row, start, after_rows, equal_comparisons, unequal_comparisons}
 use Rattle.reuse.specs.Claims.{Exact}
 use Rattle.reuse.proofs.Settle.{Filled, Last, unscanned, scanned, last_lower, last_fits}
 use Rattle.reuse.proofs.Cost.{some_entries, entries_most, entries_less, recorded_pairs}
@@ -46,7 +46,7 @@ first_row y some =
       next_match = λ i h. get_or-replicate n i 0 0 h ∙ sym (next_match_after_out y 1 i (omega (arith, (next_at_lem y i h).after)));
       last = unscanned refl;
       seen = λ a z e h. absurd (omega (arith, e.before));
-      cost = record { equal = omega arith; stops = omega arith };
+      cost = record { equal = omega arith; unequal = omega arith };
     }
   where
     n : ℕ
@@ -196,11 +196,11 @@ no_rows y =
           record {
             within = omega arith;
             equal = λ h. absurd (omega arith);
-            stops = λ h. absurd (omega arith);
+            unequal = λ h. absurd (omega arith);
             bound = λ h. absurd (omega arith);
             whole = λ h. absurd (omega arith);
           };
-      at_zero = λ h. (refl, refl, refl, refl);
+      at_zero = λ h. (refl, refl, refl);
     }
   where
     n : ℕ
@@ -213,10 +213,10 @@ exact y (suc r) g =
     let c : (after_rows y (suc r)).progress.reach ≡ reach y (suc r) = reach_is y (suc r) (after_rows y (suc r)) (omega arith) g D in
     let fits : reach y (suc r) ≤ length y = omega (arith, c, last_fits (omega arith) g D.last) in
     let equal : equal_comparisons y (suc r) < reach y (suc r) = omega (arith, c, D.cost.equal) in
-    let stops : unequal_comparisons y (suc r) + end_stops y (suc r) ≤ 2 * (suc r - 1) = omega (arith, D.cost.stops, pairs_few y (suc r) (after_rows y (suc r)) (omega arith) g D) in
+    let unequal : unequal_comparisons y (suc r) ≤ 2 * (suc r - 1) = omega (arith, D.cost.unequal, pairs_few y (suc r) (after_rows y (suc r)) (omega arith) g D) in
     record {
       tables = tables_are y (suc r) (after_rows y (suc r)).tables D.sizes D.previous D.next D.previous_match D.next_match;
       reached = c;
-      bounded = record { within = fits; equal = λ _. omega arith; stops = λ _. omega arith; bound = λ _. omega arith; whole = λ _ e. omega arith };
+      bounded = record { within = fits; equal = λ _. omega arith; unequal = λ _. omega arith; bound = λ _. omega arith; whole = λ _ e. omega arith };
       at_zero = λ e. absurd (omega arith);
     }

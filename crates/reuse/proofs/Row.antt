@@ -84,7 +84,7 @@ module _ (y : List ℕ) (r : ℕ) (small : r < length y) where
                   seen = λ a z e w. omega (arith, A.covered.seen a z e w, S.grows);
                   here = λ a w e. here a w e (same? a l);
                 };
-            cost = record { equal = omega (arith, A.cost.equal, S.equal_grows); stops = omega (arith, A.cost.stops, S.stops_grow) };
+            cost = record { equal = omega (arith, A.cost.equal, S.equal_grows); unequal = omega (arith, A.cost.unequal, S.unequal_grows) };
           }
         where
           here : (a : ℕ) → l ≤ a → Edge (extended y) a r → Same a l → r + lce y a r ≤ u.progress.reach

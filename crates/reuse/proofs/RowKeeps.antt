@@ -282,7 +282,7 @@ module _ (y : List ℕ) (r : ℕ) (small : r < length y) where
             told = o;
             last = last_lower p (omega (arith, P.before)) M.last;
             covered = record { seen = M.covered.seen; here = λ a v e. go a v e (same? a p) };
-            cost = record { equal = put_cost.equal; stops = omega (arith, put_cost.stops) };
+            cost = record { equal = put_cost.equal; unequal = omega (arith, put_cost.unequal) };
           }
         where
           -- the pair (l, r) reaches at least as far

@@ -3,7 +3,7 @@ use mathlib.Core.Path.{◌≡◌, refl, sym, ap, ◌∙◌}
 use mathlib.Core.Logic.{◌≢◌}
 use mathlib.Core.Bool.{Bool, true, false, false≢true}
 use mathlib.Core.List.{List}
-use Prim.Native.Nat.{ℕ, zero, suc, ◌+◌, ◌≤◌, ◌<◌}
+use Prim.Native.Nat.{ℕ, zero, suc, ◌+◌, ◌-◌, ◌≤◌, ◌<◌}
 use native.Mathlib.Omega.{arith}
 use lib.Dec.{ltb}
 use lib.ListN.{length, get_or}
@@ -11,7 +11,7 @@ use borrow.Author.Tests.{eq-eqb, ne_eqb, ltb-true, ltb-false}
 use Rattle.suffix.proofs.Cases.{Same, same, other, same?}
 use Rattle.suffix.proofs.Sequence.{Agree, Less, Match, agree_sym, agree_more}
 use Rattle.suffix.proofs.Order.{extended, extended_in, extended_out}
-use Rattle.reuse.specs.Steps.{ScanReport, scan, one_if}
+use Rattle.reuse.specs.Steps.{ScanReport, scan}
 use Rattle.reuse.proofs.Examples
 
 -- a match m and an order b are those of the suffixes at l and r
@@ -24,9 +24,9 @@ pub record Told (y : List ℕ) (l r : ℕ) (m : ℕ) (b : Bool) : Type 0 where
 pub record Reported (y : List ℕ) (l r m equal unequal : ℕ) (u : ScanReport) : Type 0 where
   pub told : Told y l r u.match u.left_smaller
   pub more : m ≤ u.match
-  -- one comparison for each letter that is equal; then one that is not, or the end
+  -- one comparison for each letter that is equal, and at most one that is not
   pub equal_grows : u.equal + m ≡ equal + u.match
-  pub stops_once : u.unequal + one_if u.at_end ≡ suc unequal
+  pub unequal_grows : u.unequal ≤ suc unequal
 
 -- the clauses of the scan
 module _ (y : List ℕ) (l r m k equal unequal : ℕ) where
@@ -35,7 +35,7 @@ module _ (y : List ℕ) (l r m k equal unequal : ℕ) where
   scan_equal e = rw (eq-eqb _ _ e, scan)
 
   pub scan_unequal : get_or y (l + m) 0 ≢ get_or y (r + m) 0
-      → scan y l r m (suc k) equal unequal ≡ record { match = m; left_smaller = ltb (get_or y (l + m) 0) (get_or y (r + m) 0); equal = equal; unequal = suc unequal; at_end = false }
+      → scan y l r m (suc k) equal unequal ≡ record { match = m; left_smaller = ltb (get_or y (l + m) 0) (get_or y (r + m) 0); equal = equal; unequal = suc unequal }
   unfolding scan
   scan_unequal e = rw (ne_eqb _ _ e, scan)
 
@@ -54,7 +54,7 @@ scan_told y l r m zero equal unequal h n a =
           };
       more = omega arith;
       equal_grows = refl;
-      stops_once = omega arith;
+      unequal_grows = omega arith;
     }
 scan_told y l r m (suc k) equal unequal h n a =
     go (same? (get_or y (l + m) 0) (get_or y (r + m) 0)) (λ p q. scan_told y l r (suc m) k (suc equal) unequal h p q)
@@ -66,7 +66,7 @@ scan_told y l r m (suc k) equal unequal h n a =
     er = extended_in y (r + m) (omega arith)
 
     wider : {u : ScanReport} → Reported y l r (suc m) (suc equal) unequal u → Reported y l r m equal unequal u
-    wider w = record { told = w.told; more = omega arith; equal_grows = omega arith; stops_once = w.stops_once }
+    wider w = record { told = w.told; more = omega arith; equal_grows = omega arith; unequal_grows = w.unequal_grows }
 
     go : Same (get_or y (l + m) 0) (get_or y (r + m) 0)
         → (r + suc m + k ≡ length y → Agree (extended y) l r (suc m) → Reported y l r (suc m) (suc equal) unequal (scan y l r (suc m) k (suc equal) unequal))
@@ -83,5 +83,5 @@ scan_told y l r m (suc k) equal unequal h n a =
               };
           more = omega arith;
           equal_grows = refl;
-          stops_once = omega arith;
+          unequal_grows = omega arith;
         })

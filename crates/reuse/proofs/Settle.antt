@@ -83,7 +83,7 @@ pub record Settled (y : List ℕ) (s : Progress) (l r : ℕ) (u : SettledPair) :
   pub grows : s.reach ≤ u.progress.reach
   pub last : Last y u.progress.reach u.progress.shift r l
   pub equal_grows : u.progress.equal + s.reach ≤ s.equal + u.progress.reach
-  pub stops_grow : u.progress.unequal + u.progress.ends ≤ suc (s.unequal + s.ends)
+  pub unequal_grows : u.progress.unequal ≤ suc s.unequal
 
 -- ---- the last pair
 
@@ -163,7 +163,7 @@ module _ (y : List ℕ) (s : Progress) (l r : ℕ) (small : r < length y) (e : E
       let f : r + m ≤ length y = agree_fits y e.before (omega arith) a in
       done (scan_told y l r m (length y - (r + m)) s.equal s.unequal e.before (omega arith) a)
     where
-      done : {u : ScanReport} → Reported y l r m s.equal s.unequal u → Settled y s l r (scannedPair s l r u)
+      done : {u : ScanReport} → Reported y l r m s.equal s.unequal u → Settled y s l r (scannedPair l r u)
       done {u} S =
           let z : r - (r - l) ≡ l = omega (arith, e.before) in
           let x : r + u.match - r ≡ u.match = omega arith in
@@ -182,7 +182,7 @@ module _ (y : List ℕ) (s : Progress) (l r : ℕ) (small : r < length y) (e : E
                   place = inr (refl, omega arith);
                 });
             equal_grows = omega (arith, S.equal_grows);
-            stops_grow = omega (arith, S.stops_once);
+            unequal_grows = S.unequal_grows;
           }
 
   module _ (L : LastPair y s.reach s.shift r (suc l)) (at : L.at ≤ l) (near : r < s.reach) where
@@ -203,7 +203,7 @@ module _ (y : List ℕ) (s : Progress) (l r : ℕ) (small : r < length y) (e : E
               grows = omega arith;
               last = last_lower l (omega arith) (scanned L);
               equal_grows = omega arith;
-              stops_grow = omega arith;
+              unequal_grows = omega arith;
             }
           where
             left : Less (extended y) (l - s.shift) (r - s.shift) → Less (extended y) l r

@@ -1,16 +1,15 @@
 -- What is claimed of the reuse steps. Each claim is a type; the law of its name, with a small letter first, proves it in proofs/Laws.antt.
 use Rattle.std.specs.Prelude.{◌≡◌, ◌⊎◌, List, ℕ, ◌+◌, ◌-◌, ◌*◌, ◌≤◌, ◌<◌, length, get_or}
 use Rattle.suffix.specs.Rows.{Tables, tables_after, reach}
-use Rattle.reuse.specs.Steps.{Progress, asked, ended, advances, row_start, row, after_rows, equal_comparisons, unequal_comparisons, end_stops, comparisons}
+use Rattle.reuse.specs.Steps.{Progress, asked, ended, advances, row_start, row, after_rows, equal_comparisons, unequal_comparisons, comparisons}
 
 -- how far R rows reach, and what they may cost
 pub record Bounded (y : List ℕ) (R : ℕ) : Type 0 where
   -- demand 3: "Reach never passes n"
   pub within : reach y R ≤ length y
-  -- T-02: "with R ≥ 1 rows done, equal ones are at most reach less one"
+  -- T-02: "with R ≥ 1 rows done, equal ones are at most reach less one, unequal ones at most twice (R less one)."
   pub equal : 0 < R → equal_comparisons y R ≤ reach y R - 1
-  -- T-10: "unequal comparisons and end stops together are at most twice (R less one) for R ≥ 1. The equal rule is unchanged"
-  pub stops : 0 < R → unequal_comparisons y R + end_stops y R ≤ 2 * (R - 1)
+  pub unequal : 0 < R → unequal_comparisons y R ≤ 2 * (R - 1)
   -- demand 3: "these comparisons are at most 2 (R - 1) + (reach - 1)", "so a whole build takes at most 3 (n - 1)."
   pub bound : 0 < R → comparisons y R ≤ 2 * (R - 1) + (reach y R - 1)
   pub whole : 0 < R → R ≡ length y → comparisons y R ≤ 3 * (length y - 1)
@@ -21,8 +20,8 @@ pub record Exact (y : List ℕ) (R : ℕ) : Type 0 where
   pub tables : (after_rows y R).tables ≡ tables_after y R
   pub reached : (after_rows y R).progress.reach ≡ reach y R
   pub bounded : Bounded y R
-  -- document 01: "For R = 0 comparisons and reach are 0." No row, no scan: so are the end stops
-  pub at_zero : R ≡ 0 → (equal_comparisons y R ≡ 0) × (unequal_comparisons y R ≡ 0) × (end_stops y R ≡ 0) × (reach y R ≡ 0)
+  -- document 01: "For R = 0 comparisons and reach are 0."
+  pub at_zero : R ≡ 0 → (equal_comparisons y R ≡ 0) × (unequal_comparisons y R ≡ 0) × (reach y R ≡ 0)
 
 -- "These entries .. are the definitions that demand 3 means": whatever the letters and whatever R
 abbrev pub StepsAreExact : Type 0

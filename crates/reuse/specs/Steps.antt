@@ -3,14 +3,12 @@
 use Rattle.std.specs.Prelude.{Bool, true, false, List, ℕ, zero, suc, ◌+◌, ◌-◌, eqb, ltb, length, get_or, set, replicate}
 use Rattle.suffix.specs.Rows.{Tables}
 
--- reach c, shift d, and what is counted so far: "equal and unequal comparisons as two numbers" (document 02, T-02), and the scans that
--- stopped at the end (T-10)
+-- reach c, shift d, and the comparisons made so far, "equal and unequal comparisons as two numbers" (document 02, T-02)
 pub record Progress : Type 0 where
   pub reach : ℕ
   pub shift : ℕ
   pub equal : ℕ
   pub unequal : ℕ
-  pub ends : ℕ
 
 -- what the steps have after a row; the tables hold what they recorded
 pub record BuildState : Type 0 where
@@ -23,43 +21,36 @@ pub record SettledPair : Type 0 where
   pub match : ℕ
   pub left_smaller : Bool
 
--- what a scan reports: the match and the order of its pair, the comparisons made so far, and "whether it stopped at the end" (T-10)
+-- what a scan reports: the match and the order of its pair, and the comparisons made so far
 pub record ScanReport : Type 0 where
   pub match : ℕ
   pub left_smaller : Bool
   pub equal : ℕ
   pub unequal : ℕ
-  pub at_end : Bool
 
 -- Step 1, with k letters left from r + m on, and so many comparisons made before that found the letters equal, and unequal: "compare
 -- y[l + m] with y[r + m], raising m by 1 while equal, and stop at the first unequal letters or when r + m = n. .. At n, the suffix at r
 -- is the smaller." "A comparison looks at two letters and tells less, equal or greater; it counts 1.": the order at the first unequal
 -- letters is that comparison's.
 unfoldable pub scan : List ℕ → ℕ → ℕ → ℕ → ℕ → ℕ → ℕ → ScanReport
-scan y l r m zero equal unequal = record { match = m; left_smaller = false; equal = equal; unequal = unequal; at_end = true }
+scan y l r m zero equal unequal = record { match = m; left_smaller = false; equal = equal; unequal = unequal }
 scan y l r m (suc k) equal unequal =
     elim (eqb (get_or y (l + m) 0) (get_or y (r + m) 0)) [
       | true ↦ scan y l r (suc m) k (suc equal) unequal
-      | false ↦ record { match = m; left_smaller = ltb (get_or y (l + m) 0) (get_or y (r + m) 0); equal = equal; unequal = suc unequal; at_end = false }
+      | false ↦ record { match = m; left_smaller = ltb (get_or y (l + m) 0) (get_or y (r + m) 0); equal = equal; unequal = suc unequal }
     ]
 
--- a truth value as a number
-abbrev pub one_if : Bool → ℕ
-one_if true = 1
-one_if false = 0
-
--- what a scan of (l, r) leaves: "Then c = r + m and d = r − l, also where c didn't grow." T-10: the third number is "exactly how many of
--- the reuse steps' scans did" stop at the end
-abbrev pub scanned : Progress → ℕ → ℕ → ScanReport → SettledPair
-scanned s l r u =
+-- what a scan of (l, r) leaves: "Then c = r + m and d = r − l, also where c didn't grow."
+abbrev pub scanned : ℕ → ℕ → ScanReport → SettledPair
+scanned l r u =
     record {
-      progress = record { reach = r + u.match; shift = r - l; equal = u.equal; unequal = u.unequal; ends = s.ends + one_if u.at_end };
+      progress = record { reach = r + u.match; shift = r - l; equal = u.equal; unequal = u.unequal };
       match = u.match;
       left_smaller = u.left_smaller;
     }
 
 unfoldable pub scan_from : List ℕ → Progress → ℕ → ℕ → ℕ → SettledPair
-scan_from y s l r m = scanned s l r (scan y l r m (length y - (r + m)) s.equal s.unequal)
+scan_from y s l r m = scanned l r (scan y l r m (length y - (r + m)) s.equal s.unequal)
 
 -- Step 2, the recorded pair having match v and order b: "If r + v < c, m becomes v and the order is that of the recorded pair, with
 -- no comparison. If r + v ≥ c, set m = c − r and scan as in step 1."
@@ -150,7 +141,7 @@ unfoldable pub start : List ℕ → ℕ → BuildState
 start y c =
     let n = length y in
     record {
-      progress = record { reach = c; shift = 0; equal = 0; unequal = 0; ends = 0 };
+      progress = record { reach = c; shift = 0; equal = 0; unequal = 0 };
       tables = record { previous = replicate n n; next = replicate n n; previous_match = replicate n 0; next_match = replicate n 0 };
     }
 
@@ -168,10 +159,6 @@ equal_comparisons y R = (after_rows y R).progress.equal
 abbrev pub unequal_comparisons : List ℕ → ℕ → ℕ
 unequal_comparisons y R = (after_rows y R).progress.unequal
 
--- T-10: "the build carries a third number, exactly how many of the reuse steps' scans did" stop at the end
-abbrev pub end_stops : List ℕ → ℕ → ℕ
-end_stops y R = (after_rows y R).progress.ends
-
--- document 01's count: the sum of the two, and not of the end stops: "Finding that a place is n is no comparison."
+-- document 01's count: their sum
 abbrev pub comparisons : List ℕ → ℕ → ℕ
 comparisons y R = equal_comparisons y R + unequal_comparisons y R

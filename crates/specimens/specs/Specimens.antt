@@ -89,59 +89,58 @@ ban_an_a = 66 ∷ 97 ∷ 110 ∷ 65 ∷ 110 ∷ 65 ∷ []
 abbrev pub underscore : List ℕ
 underscore = 97 ∷ 95 ∷ []
 
--- of M1 to M8 the answer has the comparisons as T-02 splits them, equal and unequal, then T-10's end stops, and count the sum of the first two, which
--- document 01 gives
+-- of M1 to M8 the answer has the comparisons as T-02 splits them, equal and unequal, and count their sum, which document 01 gives
 abbrev pub table : List Specimen
 table =
     -- "M1 empty, R 0: finished, 0 comparisons, reach 0, no tree bytes."
-    is (answers [] 0) (figures (finished 0 0 0 0 0))
+    is (answers [] 0) (figures (finished 0 0 0 0))
     ∷ is (count [] 0) (number 0)
     ∷ is (tree [] 0) (entries [])
     -- "M2 `a`: previous 1, next 1, 0 comparisons, reach 1, tree 01."
     ∷ is (previous a 1) (entries (1 ∷ []))
     ∷ is (next a 1) (entries (1 ∷ []))
-    ∷ is (answers a 1) (figures (finished 1 0 0 0 1))
+    ∷ is (answers a 1) (figures (finished 1 0 0 1))
     ∷ is (count a 1) (number 0)
     ∷ is (tree a 1) (entries (0x01 ∷ []))
     -- "M3 `ab`: previous 2 0, next 2 2, 1 comparison, reach 1, tree 03."
     ∷ is (previous ab 2) (entries (2 ∷ 0 ∷ []))
     ∷ is (next ab 2) (entries (2 ∷ 2 ∷ []))
-    ∷ is (answers ab 2) (figures (finished 2 0 1 0 1))
+    ∷ is (answers ab 2) (figures (finished 2 0 1 1))
     ∷ is (count ab 2) (number 1)
     ∷ is (tree ab 2) (entries (0x03 ∷ []))
     -- "M4 `ba`: previous 2 2, next 1 2, 1 comparison, reach 1, tree 05."
     ∷ is (previous ba 2) (entries (2 ∷ 2 ∷ []))
     ∷ is (next ba 2) (entries (1 ∷ 2 ∷ []))
-    ∷ is (answers ba 2) (figures (finished 2 0 1 0 1))
+    ∷ is (answers ba 2) (figures (finished 2 0 1 1))
     ∷ is (count ba 2) (number 1)
     ∷ is (tree ba 2) (entries (0x05 ∷ []))
     -- "M5 `aab`: previous 3 0 1, next 3 3 3, previous-match 0 1 0, 3 comparisons, reach 2, tree 07."
     ∷ is (previous aab 3) (entries (3 ∷ 0 ∷ 1 ∷ []))
     ∷ is (next aab 3) (entries (3 ∷ 3 ∷ 3 ∷ []))
     ∷ is (previous_match aab 3) (entries (0 ∷ 1 ∷ 0 ∷ []))
-    ∷ is (answers aab 3) (figures (finished 3 1 2 0 2))
+    ∷ is (answers aab 3) (figures (finished 3 1 2 2))
     ∷ is (count aab 3) (number 3)
     ∷ is (tree aab 3) (entries (0x07 ∷ []))
-    -- "M6 `aaaa`: next 1 2 3 4, next-match 3 2 1 0, 3 comparisons, reach 4, tree 55." T-10: "in `aaaa` 3"
+    -- "M6 `aaaa`: next 1 2 3 4, next-match 3 2 1 0, 3 comparisons, reach 4, tree 55."
     ∷ is (next aaaa 4) (entries (1 ∷ 2 ∷ 3 ∷ 4 ∷ []))
     ∷ is (next_match aaaa 4) (entries (3 ∷ 2 ∷ 1 ∷ 0 ∷ []))
-    ∷ is (answers aaaa 4) (figures (finished 4 3 0 3 4))
+    ∷ is (answers aaaa 4) (figures (finished 4 3 0 4))
     ∷ is (count aaaa 4) (number 3)
     ∷ is (tree aaaa 4) (entries (0x55 ∷ []))
     -- "M7 banana, R 6: as above; next-match 0 3 0 1 0 0, reach 6.": above are the figures of the tables program.
-    -- T-02: "For banana they are 3 and 3." T-10: "In banana there are 2"
+    -- T-02: "For banana they are 3 and 3."
     ∷ is (previous banana 6) (entries (6 ∷ 6 ∷ 1 ∷ 6 ∷ 3 ∷ 6 ∷ []))
     ∷ is (next banana 6) (entries (1 ∷ 3 ∷ 3 ∷ 5 ∷ 5 ∷ 6 ∷ []))
     ∷ is (next_match banana 6) (entries (0 ∷ 3 ∷ 0 ∷ 1 ∷ 0 ∷ 0 ∷ []))
     ∷ is (lengths banana) (entries (1 ∷ 2 ∷ 1 ∷ 2 ∷ 1 ∷ 1 ∷ []))
-    ∷ is (answers banana 6) (figures (finished 6 3 3 2 6))
+    ∷ is (answers banana 6) (figures (finished 6 3 3 6))
     ∷ is (count banana 6) (number 6)
     ∷ is (tree banana 6) (entries (0xCD ∷ 0x04 ∷ []))
     -- "M8 banana, R 4: halted; previous 6 6 1 6 6 6, next 1 3 3 6 6 6, next-match 0 3 0 0 0 0, 6 comparisons, reach 6, tree 4D 00."
     ∷ is (previous banana 4) (entries (6 ∷ 6 ∷ 1 ∷ 6 ∷ 6 ∷ 6 ∷ []))
     ∷ is (next banana 4) (entries (1 ∷ 3 ∷ 3 ∷ 6 ∷ 6 ∷ 6 ∷ []))
     ∷ is (next_match banana 4) (entries (0 ∷ 3 ∷ 0 ∷ 0 ∷ 0 ∷ 0 ∷ []))
-    ∷ is (answers banana 4) (figures (halted 4 3 3 1 6))
+    ∷ is (answers banana 4) (figures (halted 4 3 3 6))
     ∷ is (count banana 4) (number 6)
     ∷ is (tree banana 4) (entries (0x4D ∷ 0x00 ∷ []))
     -- "M9 tree 02 with n 2: refused 7. M10 tree 0F with n 2: 8. M11 tree 15 with n 2: 6."
@@ -160,9 +159,9 @@ table =
     ∷ is (next ban_an_a 6) (entries (1 ∷ 3 ∷ 3 ∷ 5 ∷ 5 ∷ 6 ∷ []))
     ∷ is (next_match ban_an_a 6) (entries (0 ∷ 3 ∷ 0 ∷ 1 ∷ 0 ∷ 0 ∷ []))
     ∷ is (lengths ban_an_a) (entries (1 ∷ 2 ∷ 1 ∷ 2 ∷ 1 ∷ 1 ∷ []))
-    ∷ is (answers ban_an_a 6) (figures (finished 6 3 3 2 6))
+    ∷ is (answers ban_an_a 6) (figures (finished 6 3 3 6))
     ∷ is (tree ban_an_a 6) (entries (0xCD ∷ 0x04 ∷ []))
-    ∷ is (answers ban_an_a 4) (figures (halted 4 3 3 1 6))
+    ∷ is (answers ban_an_a 4) (figures (halted 4 3 3 6))
     ∷ is (tree ban_an_a 4) (entries (0x4D ∷ 0x00 ∷ []))
     ∷ is (word ban_an_a 1) (entries (97 ∷ 110 ∷ []))
     ∷ is (word ban_an_a 3) (entries (65 ∷ 110 ∷ []))

@@ -44,7 +44,7 @@ module _ (y : List ℕ) (before after : Lent) (f : Figures) (accepted : refusal_
   unfolding answer
   counted =
       let z : count_of (answer y (length y) before) ≡ comparisons y (length y) =
-      rw (eq-eqb (refusal_of y (length y) before) 0 accepted, answer, eq-eqb (length y) (length y) refl, figures_at) (omega arith)
+      rw (eq-eqb (refusal_of y (length y) before) 0 accepted, answer, eq-eqb (length y) (length y) refl, figures_at)
       in ap count_of e.answers ∙ z
 
   few : length y ≤ 2048 → count_of f ≤ most_compared

@@ -27,10 +27,10 @@ pub record WholeBuild (y p q t : List ℕ) (c : ℕ) : Type 0 where
   pub tree : t ≡ tree_bytes y (length y)
   pub count : c ≡ comparisons y (length y)
 
--- the count of an answer: its comparisons, equal and unequal. T-10: "the program's printed sum leaves the end stops out."
+-- the count of an answer: its comparisons, equal and unequal
 abbrev pub count_of : Figures → ℕ
-count_of (finished rows equal unequal ends reach) = equal + unequal
-count_of (halted rows equal unequal ends reach) = equal + unequal
+count_of (finished rows equal unequal reach) = equal + unequal
+count_of (halted rows equal unequal reach) = equal + unequal
 count_of (refused number) = 0
 
 -- "a whole build takes at most 3 (n - 1)" comparisons, and n is at most 2,048 here

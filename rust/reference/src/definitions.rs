@@ -108,7 +108,6 @@ pub fn build<L: Letter>(letters: &[L], rows: usize) -> Structure {
             rows,
             equal: steps.equal,
             unequal: steps.unequal,
-            ends: steps.ends,
             reach: reach(letters, rows),
         },
         tables: tables(letters, rows),

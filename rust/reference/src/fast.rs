@@ -27,13 +27,12 @@ impl Scanned for u32 {
 }
 
 /// The latest scanned pair: how far it reaches and how far apart its positions are. And the comparisons
-/// so far that found two letters equal, and unequal, and the scans that stopped at the end.
+/// so far that found two letters equal, and unequal.
 struct Window {
     reach: usize,
     shift: usize,
     equal: usize,
     unequal: usize,
-    ends: usize,
 }
 
 impl Window {
@@ -46,20 +45,20 @@ impl Window {
         r: usize,
         mut m: usize,
     ) -> (usize, bool) {
-        self.shift = r - l;
+        let mut left_is_smaller = false;
         while r + m < letters.len() {
             let (left, right) = (letters[l + m], letters[r + m]);
             if !left.equals(right) {
                 self.unequal += 1;
-                self.reach = r + m;
-                return (m, (left.rank() < right.rank()) != REVERSED);
+                left_is_smaller = (left.rank() < right.rank()) != REVERSED;
+                break;
             }
             self.equal += 1;
             m += 1;
         }
-        self.ends += 1;
         self.reach = r + m;
-        (m, false)
+        self.shift = r - l;
+        (m, left_is_smaller)
     }
 }
 
@@ -86,7 +85,6 @@ fn settle_rows<const REVERSED: bool, L: Scanned>(
         shift: 0,
         equal: 0,
         unequal: 0,
-        ends: 0,
     };
     for r in 0..rows {
         let (place, matched) = if r == 0 {
@@ -207,7 +205,6 @@ pub fn build<L: Scanned>(
         rows,
         equal: window.equal,
         unequal: window.unequal,
-        ends: window.ends,
         reach: window.reach,
     })
 }

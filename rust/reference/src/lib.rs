@@ -63,8 +63,6 @@ pub struct Figures {
     pub equal: usize,
     /// Those that find them unequal.
     pub unequal: usize,
-    /// The scans of the reuse steps that stop at the end of the string.
-    pub ends: usize,
     /// The reach after these rows.
     pub reach: usize,
 }

@@ -18,10 +18,6 @@ pub struct Steps {
     pub equal: usize,
     /// The comparisons of two letters that find them unequal.
     pub unequal: usize,
-    /// The scans that stop at the end of the string.
-    pub ends: usize,
-    /// All scans.
-    scans: usize,
 }
 
 /// A settled pair (l, r).
@@ -42,8 +38,6 @@ pub fn run<L: Letter>(letters: &[L], rows: usize) -> Steps {
         shift: 0,
         equal: 0,
         unequal: 0,
-        ends: 0,
-        scans: 0,
     };
     if rows > 0 {
         // Row 0.
@@ -128,20 +122,17 @@ impl Steps {
 
     /// The scan of step 1.
     fn scan<L: Letter>(&mut self, letters: &[L], l: usize, r: usize, mut m: usize) -> Settled {
-        self.scans += 1;
-        let left_is_smaller = loop {
-            if r + m == letters.len() {
-                self.ends += 1;
-                break false;
-            }
+        let mut left_is_smaller = false;
+        while r + m < letters.len() {
             let (left, right) = (letters[l + m].rank(), letters[r + m].rank());
             if left != right {
                 self.unequal += 1;
-                break left < right;
+                left_is_smaller = left < right;
+                break;
             }
             self.equal += 1;
             m += 1;
-        };
+        }
         self.reach = r + m;
         self.shift = r - l;
         Settled {
@@ -164,7 +155,6 @@ mod tests {
                     let steps = run(&letters, rows);
                     assert_eq!(steps.tables(), definitions::tables(&letters, rows));
                     assert_eq!(steps.reach, definitions::reach(&letters, rows));
-                    assert_eq!(steps.unequal + steps.ends, steps.scans);
                 }
             }
         }

@@ -370,9 +370,9 @@ pub fn assert_build<L: Letter>(letters: &[L], rows: usize, expected: &Structure)
         "finished, rows, reach"
     );
     assert_eq!(
-        (built.equal, built.unequal, built.ends),
-        (figures.equal, figures.unequal, figures.ends),
-        "equal comparisons, unequal ones, end stops"
+        (built.equal, built.unequal),
+        (figures.equal, figures.unequal),
+        "equal comparisons, unequal ones"
     );
     assert_list(
         "previous",
@@ -393,10 +393,7 @@ pub fn assert_build<L: Letter>(letters: &[L], rows: usize, expected: &Structure)
     assert_list("tree", lent.tree.contents(), &expected.tree);
     if rows > 0 {
         assert!(built.equal < built.reach, "equal comparisons");
-        assert!(
-            built.unequal + built.ends <= 2 * (rows - 1),
-            "unequal comparisons and end stops"
-        );
+        assert!(built.unequal <= 2 * (rows - 1), "unequal comparisons");
         assert!(built.reach <= n, "the reach");
     }
 }

@@ -11,12 +11,12 @@ use Rattle.ranks.specs.Ranks.{string_of}
 use Rattle.refusal.specs.Numbers.{verdict_number}
 use Rattle.refusal.specs.Conditions.{build_refusal}
 use Rattle.reuse.specs.Steps.{after_rows}
-use Rattle.rows.specs.States.{progress_of, build_state}
+use Rattle.build.specs.States.{progress_of, build_state}
 use Rattle.outcome.specs.Built.{Lent, lent, refusal_of}
 use Rattle.outcome.proofs.Answers.{Accepted}
 use Rattle.outcome.proofs.Answers as answers
-use Rattle.rows.proofs.Parts.{part_whole}
-use Rattle.rows.proofs.Clearing.{tables_cleared}
+use Rattle.build.proofs.Parts.{part_whole}
+use Rattle.build.proofs.Clearing.{tables_cleared}
 use Rattle.build.proofs.build.Statement.{statement}
 use Rattle.build.proofs.build.Tie as tie
 

@@ -11,10 +11,9 @@ use Rattle.refusal.specs.Numbers.{verdict_number}
 use Rattle.refusal.specs.Conditions.{tables_refusal}
 use Rattle.refusal.proofs.Tables as verdict
 use Rattle.outcome.specs.Built.{tables_of}
-use Rattle.scans.specs.Scans.{oriented_string}
-use Rattle.rows.specs.States.{progress_of, build_state}
-use Rattle.scans.proofs.Strings.{string_length}
-use Rattle.rows.proofs.Clearing.{none_left}
+use Rattle.build.specs.States.{oriented_string, progress_of, build_state}
+use Rattle.build.proofs.Strings.{string_length}
+use Rattle.build.proofs.Clearing.{none_left}
 use Rattle.outcome.proofs.Alone as alone
 use Rattle.build.proofs.build_tables.Statement.{statement}
 use Rattle.build.proofs.build_tables.Tie as tie

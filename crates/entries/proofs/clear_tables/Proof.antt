@@ -11,10 +11,10 @@ returns c =
     let d = c.before.before in
     let b = d.before.before.before.before in
     let q = b.before.before.before.before in (
-      q.before.before.before.before.clear-from.ensures ∙ cleared_alike _ (omega arith) (omega arith),
-      q.clear-from2.ensures ∙ cleared_alike _ (omega arith) (omega arith),
-      b.clear-from3.ensures ∙ cleared_alike _ (omega arith) (omega arith),
-      d.clear-from4.ensures ∙ cleared_alike _ (omega arith) (omega arith),
+      q.before.before.before.before.clear_from.ensures ∙ cleared_alike _ (omega arith) (omega arith),
+      q.clear_from-2.ensures ∙ cleared_alike _ (omega arith) (omega arith),
+      b.clear_from-3.ensures ∙ cleared_alike _ (omega arith) (omega arith),
+      d.clear_from-4.ensures ∙ cleared_alike _ (omega arith) (omega arith),
     )
 
 pub clear_tables_spec : {M : Type 1} → statement M

@@ -1,5 +1,0 @@
-pub mod Clearing
-pub mod Parts
-pub mod Invariants
-pub mod Settling
-pub mod Walking

@@ -1,3 +1,0 @@
-pub mod Strings
-pub mod Groups
-pub mod Scanning
