@@ -1,4 +1,6 @@
 // Trees of brackets in lent bytes: a verdict on one, and its two tables.
+#![tactic(auto)]
+
 ghost use Rattle.std.specs.Prelude.{◌≡◌, ◌≤◌, length};
 ghost use Rattle.suffix.specs.Tree.{tree_length};
 ghost use Rattle.refusal.specs.Numbers.{verdict_number};
@@ -54,7 +56,7 @@ pub fn verdict_on(n: usize, tree: &[u8]) -> Verdict
 }
 
 // The innermost open position, n where none is open, and how many positions are opened.
-#[derive(Drop)]
+#[derive(Clone, Copy)]
 struct Open {
     top: u32,
     count: u32,

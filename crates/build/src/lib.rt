@@ -1,5 +1,7 @@
 // The build: from a string to four tables and a tree, in a given number of rows; and to the four tables alone, in either order. A string is of
 // letters, or where `wide` is true of symbols; the slice that it is not of is not read.
+#![tactic(auto)]
+
 ghost use Rattle.std.specs.Prelude.{◌≡◌, false, [], ◌+◌, ◌-◌, ◌/◌, ◌%◌, ◌^◌, ◌≤◌, ◌<◌, length, get_or, set, take, replicate};
 ghost use Rattle.suffix.specs.Tree.{tree_length, tree_bytes};
 ghost use Rattle.ranks.specs.Ranks.{ranks, string_of, oriented, oriented_rank};
@@ -14,7 +16,7 @@ use refusal::Verdict;
 
 // The state of a build: reach c, shift d, the rows that are recorded, and the comparisons made that found two letters equal,
 // and unequal.
-#[derive(Drop)]
+#[derive(Clone, Copy)]
 struct State {
     reach: usize,
     shift: usize,
@@ -24,7 +26,7 @@ struct State {
 }
 
 // What a scan reports: the match and the order of its pair, and the comparisons made so far.
-#[derive(Drop)]
+#[derive(Clone, Copy)]
 struct ScanReport {
     matched: usize,
     left_smaller: bool,
@@ -33,7 +35,7 @@ struct ScanReport {
 }
 
 // A pair (l, r) that is settled: the state after it, its match, and whether the suffix at l is the smaller.
-#[derive(Drop)]
+#[derive(Clone, Copy)]
 struct SettledPair {
     state: State,
     matched: usize,

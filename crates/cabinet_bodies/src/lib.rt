@@ -1,4 +1,6 @@
 // The verdict on letter counts and bodies of a cabinet file, for the writer and for the reader: document 02, T-01.
+#![tactic(auto)]
+
 ghost use Rattle.std.specs.Prelude.{◌≡◌, length};
 ghost use Rattle.refusal.specs.Numbers.{verdict_number};
 ghost use Rattle.cabinet.specs.File.{body_bytes, count_in};

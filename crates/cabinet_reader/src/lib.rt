@@ -1,4 +1,6 @@
 // The reader of cabinet files: document 02, T-01 and T-04.
+#![tactic(auto)]
+
 ghost use Rattle.std.specs.Prelude.{◌≡◌, false, ◌+◌, ◌*◌, ◌≤◌, length};
 ghost use Rattle.refusal.specs.Numbers.{verdict_number};
 ghost use Rattle.cabinet.specs.LittleEndian.{number_at};

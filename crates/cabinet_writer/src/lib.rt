@@ -1,4 +1,6 @@
 // The writer of cabinet files: document 02, T-01 and T-04.
+#![tactic(auto)]
+
 ghost use Rattle.std.specs.Prelude.{◌≡◌, ◌++◌, ◌+◌, ◌≤◌, ◌<◌, length};
 ghost use Rattle.refusal.specs.Numbers.{verdict_number};
 ghost use Rattle.writing.specs.Writing.{Wrote};

@@ -1,4 +1,6 @@
 // The check of a next table that others sent.
+#![tactic(auto)]
+
 ghost use Rattle.std.specs.Prelude.{◌≡◌, ◌≤◌, length};
 ghost use Rattle.ranks.specs.Ranks.{string_of};
 ghost use Rattle.refusal.specs.Numbers.{verdict_number};
@@ -8,7 +10,7 @@ ghost use Rattle.checker.specs.Comparing.{first_difference, compared_with};
 
 use refusal::{Refusal, Verdict};
 
-#[derive(Drop)]
+#[derive(Clone, Copy)]
 pub enum Checked {
     Right,
     WrongAt(usize),

@@ -1,4 +1,6 @@
 // Lent memory that is cleared: the entries of tables and lists from a place on, and bytes.
+#![tactic(auto)]
+
 ghost use Rattle.std.specs.Prelude.{◌≡◌, length, replicate};
 ghost use Rattle.entries.specs.Cleared.{cleared_from};
 

@@ -1,4 +1,6 @@
 // Bytes of brackets: a bit of them, and, for each half byte, the signed sum and the lowest running sum of its brackets.
+#![tactic(auto)]
+
 ghost use Rattle.std.specs.Prelude.{◌≡◌, ◌%◌};
 ghost use Rattle.refusal.specs.Conditions.{byte_bit, bit_of};
 ghost use Rattle.excess.specs.Excess.{excesses, min_excesses};

@@ -1,4 +1,6 @@
 // The exported functions: each passes its arguments on to the crate that does the work.
+#![tactic(auto)]
+
 ghost use Rattle.std.specs.Prelude.{◌≡◌};
 ghost use Rattle.ranks.specs.Ranks.{ranks};
 ghost use Rattle.outcome.specs.Built.{tables_of, lent, BuiltExactly};

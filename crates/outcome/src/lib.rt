@@ -1,11 +1,13 @@
 // What a build answers.
+#![tactic(auto)]
+
 ghost use Rattle.std.specs.Prelude.{◌≡◌};
 ghost use Rattle.outcome.specs.Built.{figures_of, figures_at};
 
 use refusal::Refusal;
 
 // The figures of a build that is not refused.
-#[derive(Drop)]
+#[derive(Clone, Copy)]
 pub struct Report {
     pub rows: usize,
     pub equal: usize,
@@ -13,7 +15,7 @@ pub struct Report {
     pub reach: usize,
 }
 
-#[derive(Drop)]
+#[derive(Clone, Copy)]
 pub enum Built {
     Finished(Report),
     Halted(Report),

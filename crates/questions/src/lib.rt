@@ -1,4 +1,6 @@
 // Questions put to a tree of brackets: the place of a position's opening, its next and its previous entry.
+#![tactic(auto)]
+
 ghost use Rattle.std.specs.Prelude.{◌≡◌};
 ghost use Rattle.refusal.specs.Numbers.{verdict_number};
 ghost use Rattle.refusal.specs.Answers.{figures_of};

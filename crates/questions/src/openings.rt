@@ -6,7 +6,7 @@ ghost use Rattle.refusal.specs.Conditions.{bit_of, openings};
 use excess::bit;
 
 // A byte, and how many openings come between its start and the one that is looked for.
-#[derive(Drop)]
+#[derive(Clone, Copy)]
 struct Place {
     byte: usize,
     left: usize,

@@ -1,4 +1,6 @@
 // Ranks, the numbers by which letters and symbols compare, and the length of a string of either width.
+#![tactic(auto)]
+
 ghost use Rattle.std.specs.Prelude.{◌≡◌, eqb, length};
 ghost use Rattle.ranks.specs.Ranks.{rank, oriented_rank, string_of};
 

@@ -1,11 +1,13 @@
 // Why an operation refuses: document 01, "Who can cause which refusal", and document 02, T-01, T-03, T-04 and T-09.
+#![tactic(auto)]
+
 ghost use Rattle.std.specs.Prelude.{◌≡◌};
 ghost use Rattle.refusal.specs.Numbers.{number_of, verdict_number};
 ghost use Rattle.refusal.specs.Conditions.{build_refusal, tables_refusal};
 
 use suffix::tree_length;
 
-#[derive(Drop)]
+#[derive(Clone, Copy)]
 pub enum Refusal {
     TooLong,
     TableLength,
@@ -24,14 +26,14 @@ pub enum Refusal {
 }
 
 // A number that is asked for, or why there is none.
-#[derive(Drop)]
+#[derive(Clone, Copy)]
 pub enum Answer {
     Value(usize),
     NoValue(Refusal),
 }
 
 // Whether an operation takes what it is given.
-#[derive(Drop)]
+#[derive(Clone, Copy)]
 pub enum Verdict {
     Accepted,
     Refused(Refusal),

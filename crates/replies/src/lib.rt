@@ -1,4 +1,6 @@
 // The version of the exported functions, the structures that they return, and the replies that carry an answer's figures.
+#![tactic(auto)]
+
 ghost use Rattle.std.specs.Prelude.{◌≡◌};
 ghost use Rattle.outcome.specs.Built.{figures_of as builtFigures};
 ghost use Rattle.checker.specs.Checked.{finding_of};
@@ -22,7 +24,7 @@ pub fn version() -> u32
 }
 
 #[repr(C)]
-#[derive(Drop)]
+#[derive(Clone, Copy)]
 pub struct BuildReply {
     pub refusal: u32,
     pub finished: u32,
@@ -33,21 +35,21 @@ pub struct BuildReply {
 }
 
 #[repr(C)]
-#[derive(Drop)]
+#[derive(Clone, Copy)]
 pub struct Reply {
     pub refusal: u32,
     pub value: usize,
 }
 
 #[repr(C)]
-#[derive(Drop)]
+#[derive(Clone, Copy)]
 pub struct NextReply {
     pub refusal: u32,
     pub last: u32,
 }
 
 #[repr(C)]
-#[derive(Drop)]
+#[derive(Clone, Copy)]
 pub struct CheckReply {
     pub refusal: u32,
     pub right: u32,
@@ -55,7 +57,7 @@ pub struct CheckReply {
 }
 
 #[repr(C)]
-#[derive(Drop)]
+#[derive(Clone, Copy)]
 pub struct PartReply {
     pub refusal: u32,
     pub start: usize,
@@ -63,7 +65,7 @@ pub struct PartReply {
 }
 
 #[repr(C)]
-#[derive(Drop)]
+#[derive(Clone, Copy)]
 pub struct CabinetReply {
     pub refusal: u32,
     pub mark: u32,

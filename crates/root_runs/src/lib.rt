@@ -1,5 +1,7 @@
 // The run that one place of a string reports, by its next and next-match under the two orders. A string is of letters, or where `wide` is true of
 // symbols (T-07); the slice that it is not of is not read.
+#![tactic(auto)]
+
 ghost use Rattle.std.specs.Prelude.{◌≡◌, true, false, ◌+◌, ◌-◌, ◌≤◌, ◌<◌, min, eqb, length, get_or};
 ghost use Rattle.ranks.specs.Ranks.{string_of};
 ghost use Rattle.repeats.specs.Runs.{no_run};

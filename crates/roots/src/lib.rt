@@ -1,5 +1,7 @@
 // The runs to which the Lyndon roots of both orders lead, gathered in order: document 02, T-03. A string is of letters, or where `wide` is true of
 // symbols (T-07); the slice that it is not of is not read.
+#![tactic(auto)]
+
 ghost use Rattle.std.specs.Prelude.{◌≡◌, true, false, [], ◌∷◌, ◌≤◌, ◌<◌, length, get_or};
 ghost use Rattle.ranks.specs.Ranks.{string_of};
 ghost use Rattle.repeats.specs.Report.{runs};

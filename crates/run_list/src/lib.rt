@@ -1,4 +1,6 @@
 // A list of runs in three tables, kept by start and then by period: one run after the other is put in where it belongs.
+#![tactic(auto)]
+
 ghost use Rattle.std.specs.Prelude.{◌≡◌, ◌-◌, ◌<◌};
 ghost use Rattle.repeats.specs.Report.{before};
 ghost use Rattle.repeats.specs.Refusals.{lists};
@@ -6,7 +8,7 @@ ghost use Rattle.run_list.specs.Entries.{run_of, entry_in, stored, Has, passes};
 ghost use Rattle.run_list.specs.Inserted.{is_taken, placed, Inserted};
 
 // A run, or 0 three times for none.
-#[derive(Drop)]
+#[derive(Clone, Copy)]
 pub struct Run {
     pub start: u32,
     pub end: u32,

@@ -1,4 +1,6 @@
 // All runs of a string: document 02, T-03. It is of letters, or where `wide` is true of symbols (T-07).
+#![tactic(auto)]
+
 ghost use Rattle.std.specs.Prelude.{◌≡◌, ◌≤◌, length};
 ghost use Rattle.suffix.specs.Search.{tabulate};
 ghost use Rattle.ranks.specs.Ranks.{string_of};

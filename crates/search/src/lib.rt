@@ -1,4 +1,6 @@
 // Searches in bytes of brackets for where their running sum falls below 0.
+#![tactic(auto)]
+
 ghost use Rattle.std.specs.Prelude.{◌≡◌, ◌≤◌};
 ghost use Rattle.std.specs.Int.Signed.{mag};
 ghost use Rattle.search.specs.Searching.{is_within, not_started, forward_found, backward_found};
@@ -9,7 +11,7 @@ use sums::{Search, fell, is_zero, search_back, search_on};
 mod sums;
 
 // Where a search ends, whether the sum falls below 0 there, and whether it is 0 there.
-#[derive(Drop)]
+#[derive(Clone, Copy)]
 pub struct Found {
     pub at: usize,
     pub fell: bool,

@@ -9,14 +9,14 @@ ghost use Rattle.search.specs.Steps.{is_minus, is_zero, turned_sum, found_at, Re
 use excess::{bit, half_excesses, half_min_excesses};
 
 // A bit that a search has come to, and the running sum of the brackets there.
-#[derive(Drop)]
+#[derive(Clone, Copy)]
 pub(crate) struct Search {
     pub(crate) at: usize,
     pub(crate) sum: i32,
 }
 
 // The same at the start of byte j.
-#[derive(Drop)]
+#[derive(Clone, Copy)]
 struct Bytes {
     j: usize,
     sum: i32,

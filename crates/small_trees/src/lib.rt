@@ -1,4 +1,6 @@
 // The trees of a small size, one after the other in the same buffer.
+#![tactic(auto)]
+
 ghost use Rattle.std.specs.Prelude.{◌≡◌, ◌-◌, ◌*◌, ◌%◌, ◌^◌, ◌≤◌, ◌<◌, min, length};
 ghost use Rattle.suffix.specs.Tree.{byte_of};
 ghost use Rattle.refusal.specs.Numbers.{verdict_number};
@@ -11,7 +13,7 @@ use refusal::{Refusal, Verdict};
 use suffix::tree_length;
 
 // What came of going on from a tree: the next one is in the buffer, the tree is the last, or it is refused.
-#[derive(Drop)]
+#[derive(Clone, Copy)]
 pub enum Step {
     Next,
     Last,

@@ -1,4 +1,6 @@
 // The bytes of a tree. All else is the published definitions (specs/) and what is proved about them (proofs/).
+#![tactic(auto)]
+
 ghost use Rattle.std.specs.Prelude.{◌≡◌};
 ghost use Rattle.suffix.specs.Tree.{tree_length};
 

@@ -1,4 +1,6 @@
 // The tables program. Its stored input is the six bytes banana.
+#![tactic(auto)]
+
 fn main() {
     tables_text::run();
 }

@@ -1,4 +1,6 @@
 // The text of the tables program: built, put into a buffer, and written to standard output.
+#![tactic(auto)]
+
 ghost use Rattle.std.specs.Prelude.{◌≡◌, ◌≤◌, length};
 ghost use Rattle.ranks.specs.Ranks.{ranks};
 ghost use Rattle.outcome.specs.Built.{figures_of};

@@ -1,4 +1,6 @@
 // The size that the program reads which prints every tree of a size.
+#![tactic(auto)]
+
 ghost use Rattle.std.specs.Prelude.{◌≡◌};
 ghost use Rattle.tree_size.specs.Size.{is_digit, one_digit, two_digits, size_in};
 

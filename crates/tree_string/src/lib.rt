@@ -1,4 +1,6 @@
 // The string of a tree, written in a lent buffer.
+#![tactic(auto)]
+
 ghost use Rattle.std.specs.Prelude.{◌≡◌, cond, ◌%◌, length};
 ghost use Rattle.refusal.specs.Numbers.{verdict_number};
 ghost use Rattle.refusal.specs.Conditions.{byte_bit, tree_refusal};
@@ -15,7 +17,7 @@ fn opening_at(byte: u8, m: usize) -> usize
 }
 
 // How many positions have no number yet, how many numbers wait for their opening, and the number of the next closing.
-#[derive(Drop)]
+#[derive(Clone, Copy)]
 struct Numbering {
     positions: usize,
     waiting: usize,

@@ -1,4 +1,6 @@
 // The program that prints every tree of a size. Its stored input is the size 2.
+#![tactic(auto)]
+
 fn main() {
     trees_text::run();
 }

@@ -1,4 +1,6 @@
 // The program that prints every tree of a size: line by line, put into a buffer and written to standard output.
+#![tactic(auto)]
+
 ghost use Rattle.std.specs.Prelude.{◌≡◌, ◌≤◌, length};
 ghost use Rattle.suffix.specs.Tree.{tree_length};
 ghost use Rattle.writing.specs.Writing.{Put};
@@ -14,7 +16,7 @@ use tree_size::size_in;
 use writing::{put, put_byte, put_decimal, put_hexes};
 
 // The length of a line that was put, and whether it is the last one.
-#[derive(Drop)]
+#[derive(Clone, Copy)]
 struct Line {
     length: usize,
     last: bool,

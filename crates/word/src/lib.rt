@@ -1,5 +1,7 @@
 // The longest Lyndon word at a position of a string: document 01, "The tree", last line. A string is of letters, or where `wide` is true of symbols
 // (document 02, T-07); the slice that it is not of is not read.
+#![tactic(auto)]
+
 ghost use Rattle.std.specs.Prelude.{◌≡◌, ◌<◌, eqb, ltb, length, get_or};
 ghost use Rattle.suffix.specs.Lyndon.{longest_lyndon};
 ghost use Rattle.ranks.specs.Ranks.{ranks, string_of};

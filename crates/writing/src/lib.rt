@@ -1,4 +1,6 @@
 // Bytes, and numbers as text, put into a buffer.
+#![tactic(auto)]
+
 ghost use Rattle.std.specs.Prelude.{[], ◌∷◌, length};
 ghost use Rattle.io.specs.Digits.{last_digits};
 ghost use Rattle.writing.specs.Writing.{Put};
