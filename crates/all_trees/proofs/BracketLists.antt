@@ -93,7 +93,7 @@ unfolding all_brackets chosen before Rests
 all_rest zero g k h = go (test (g [])) k h
   where
     go : Test (g []) → (k : ℕ) → k < length (chosen g ([] ∷ [])) → chosen (before (get_or (chosen g ([] ∷ [])) k [])) (chosen g ([] ∷ [])) ≡ drop (suc k) (chosen g ([] ∷ []))
-    go (holds e) zero w = rw (e, chosen)
+    go (holds e) zero w = simp (e, chosen)
     go (holds e) (suc j) w = absurd (let z : length (chosen g ([] ∷ [])) ≡ 1 = rw (e, chosen) in omega arith)
     go (fails e) j w = absurd (let z : length (chosen g ([] ∷ [])) ≡ 0 = rw (e, chosen) in omega arith)
 all_rest (suc m) g k h =
@@ -124,7 +124,7 @@ unfolding all_brackets chosen
 all_length zero g k h = go (test (g [])) k h
   where
     go : Test (g []) → (k : ℕ) → k < length (chosen g ([] ∷ [])) → length (get_or (chosen g ([] ∷ [])) k []) ≡ 0
-    go (holds e) zero w = rw (e, chosen)
+    go (holds e) zero w = simp (e, chosen)
     go (holds e) (suc j) w = absurd (let z : length (chosen g ([] ∷ [])) ≡ 1 = rw (e, chosen) in omega arith)
     go (fails e) j w = absurd (let z : length (chosen g ([] ∷ [])) ≡ 0 = rw (e, chosen) in omega arith)
 all_length (suc m) g k h = go (part A k) (λ j w. all_length m (λ w. g (true ∷ w)) j w) (λ j w. all_length m (λ w. g (false ∷ w)) j w)

@@ -108,7 +108,7 @@ module _ {bytes : ℕ} {letters : Bor (List ℕ)} (y : List ℕ) {i number : ℕ
       }
 
   pub taken : word_refusal (length letters.now) i ≡ 0 → {k : ℕ} → k ≡ longest_lyndon y i → word.now ≡ take k (take (length letters.now - i) (drop i letters.now))
-      → word.ptr ≡ (letters.ptr.0, i * bytes + letters.ptr.1) → WordAnswered bytes letters y i number word
+      → word.ref_ptr ≡ (letters.ref_ptr.0, i * bytes + letters.ref_ptr.1) → WordAnswered bytes letters y i number word
   unfolding part
   taken z k now own =
       record {

@@ -2,12 +2,8 @@
 use mathlib.Core.Path.{refl}
 use Rattle.refusal.specs.Conditions.{byte_bit}
 use Rattle.excess.specs.Excess.{half_min_excess}
-use Rattle.excess.proofs.half_min_excesses.Statement.{statement}
-use Rattle.excess.proofs.half_min_excesses.Tie as tie
+use Rattle.excess.proofs.half_min_excesses.Goals as goal
 
-returns : tie.Need-returns
+pub returns : goal.returns
 unfolding half_min_excess byte_bit
 returns c = refl
-
-pub half_min_excesses_spec : {M : Type 1} → statement M
-half_min_excesses_spec = tie.close (tie.spec returns)
