@@ -50,7 +50,7 @@ pub contents_length : (place : ℕ) (counts : List ℕ) → length (contents pla
 unfolding contents
 contents_length place [] = refl
 contents_length place (n ∷ counts) =
-    length-append (four_bytes place ++ four_bytes n) _ ∙ ap (λ k. length (four_bytes place ++ four_bytes n) + k) (contents_length _ counts)
+    length-append (four_bytes place ++ four_bytes n) _ ∙ ap (λ k. length (four_bytes place ++ four_bytes n) + k) (contents_length (place + tree_length n) counts)
     ∙ omega (arith, length-append (four_bytes place) (four_bytes n), four_length place, four_length n)
 
 contents_append : (a b : List ℕ) (place : ℕ) → contents place (a ++ b) ≡ contents place a ++ contents (place + body_bytes (count_in a) (length a)) b

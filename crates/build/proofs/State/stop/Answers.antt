@@ -1,0 +1,8 @@
+-- `build::State::stop` meets its contract.
+use mathlib.Core.Path.{refl}
+use native.Mathlib.Omega.{arith}
+use Rattle.build.proofs.Settling.{same_pair}
+use Rattle.build.proofs.State.stop.Goals as goal
+
+pub returns : goal.returns
+returns c = (same_pair (omega arith) (omega arith) (omega arith) (omega arith) (omega arith), refl)
