@@ -111,8 +111,8 @@ fn fill_tables(n: usize, tree: &[u8], previous: &mut [u32], next: &mut [u32])
 
 // Reads a tree of n positions into its two tables: refusals 1, 2, 3, 6, 7, 8.
 pub fn read(n: usize, tree: &[u8], previous: &mut [u32], next: &mut [u32]) -> Verdict
-    ensures { ReadBack n tree.now (record { previous = previous.entry.now; next = next.old })
-        (record { previous = previous.exit.now; next = next.new })
+    ensures { ReadBack n tree.now (record { previous = previous.old; next = next.old })
+        (record { previous = previous.new; next = next.new })
         (verdict_number result) }
 {
     if n > 1000000 {

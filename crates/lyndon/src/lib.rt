@@ -61,8 +61,8 @@ pub extern "C" fn lyndon_build(
 
 #[unsafe(no_mangle)]
 pub extern "C" fn lyndon_read(n: usize, tree: &[u8], previous: &mut [u32], next: &mut [u32]) -> u32
-    ensures { ReadBack n tree.now (record { previous = previous.entry.now; next = next.old })
-        (record { previous = previous.exit.now; next = next.new })
+    ensures { ReadBack n tree.now (record { previous = previous.old; next = next.old })
+        (record { previous = previous.new; next = next.new })
         result }
 {
     refusal::verdict_number(brackets::read(n, tree, previous, next))

@@ -1,5 +1,5 @@
--- What a returned number says of the conditions, and a verdict's tag of its number.
-use mathlib.Core.Path.{◌≡◌, refl, sym, ◌∙◌}
+-- What a returned number says of the conditions, and a verdict's case of its number.
+use mathlib.Core.Path.{◌≡◌, refl, sym, ap, ◌∙◌}
 use mathlib.Core.Logic.{◌≢◌}
 use mathlib.Core.Bool.{Bool, true, false, ◌||◌, true≢false}
 use mathlib.Core.List.{List, [], ◌∷◌}
@@ -7,7 +7,6 @@ use Prim.Native.Nat.{ℕ, zero, suc, ◌<◌}
 use native.Mathlib.Omega.{arith}
 use lib.ListN.{length, get_or}
 use borrow.Author.Tests.{eq-eqb, ne_eqb}
-use denote.Enum.Declared.{tag_of, declared}
 use Rattle.suffix.specs.Search.{tabulate}
 use Rattle.suffix.proofs.Cases.{Same, same, other, same?}
 use Rattle.suffix.proofs.Search.{tabulate_length, tabulate_entry}
@@ -16,7 +15,6 @@ use Rattle.refusal.specs.declared.Refusal.TheVariants.{TooLong, TableLength, Tre
 use Rattle.refusal.specs.declared.Verdict.{Verdict}
 use Rattle.refusal.specs.declared.Verdict.TheVariants.{Accepted, Refused}
 use Rattle.refusal.specs.Numbers.{number_of, lowest_from, first_of, unless_refused, number_if, verdict_number}
-use Rattle.refusal.specs.contracts.Verdict.{enum}
 
 -- 0 is no refusal's number
 pub positive : (k : Refusal) → 0 < number_of k
@@ -114,11 +112,9 @@ pub nothing_found : (b : Bool) (k : Refusal) → number_if b k ≡ 0 → b ≡ f
 nothing_found true k e = absurd (omega (arith, positive k))
 nothing_found false k e = refl
 
--- a verdict by its tag
-pub accepted_of : (v : Verdict) → tag_of (declared enum) v ≡ 0 → verdict_number v ≡ 0
-accepted_of Accepted e = refl
-accepted_of (Refused k) e = absurd (omega arith)
+-- a verdict by its case
+pub accepted_of : (v : Verdict) → v ≡ Accepted → verdict_number v ≡ 0
+accepted_of v e = ap verdict_number e
 
-pub refused_of : (v : Verdict) → tag_of (declared enum) v ≡ 1 → verdict_number v ≢ 0
-refused_of Accepted e = absurd (omega arith)
-refused_of (Refused k) e = λ z. omega (arith, positive k)
+pub refused_of : (v : Verdict) {k : Refusal} → v ≡ Refused k → verdict_number v ≢ 0
+refused_of v {k} e = rw e (λ z. omega (arith, positive k))
