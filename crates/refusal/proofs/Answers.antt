@@ -3,7 +3,6 @@ use mathlib.Core.Path.{◌≡◌, sym, ap, ◌∙◌}
 use mathlib.Core.Bool.{Bool, true, false, true≢false, false≢true}
 use Prim.Native.Nat.{ℕ}
 use native.Mathlib.Omega.{arith}
-use denote.Enum.Declared.{tag_of, declared}
 use Rattle.suffix.proofs.Cases.{Same, same, other, same?}
 use Rattle.refusal.specs.Numbers.{number_of}
 use Rattle.refusal.proofs.Numbers.{positive, unless_taken, unless_refused_lem}
@@ -11,7 +10,6 @@ use Rattle.refusal.specs.declared.Refusal.{Refusal}
 use Rattle.refusal.specs.Answers.{Figures, value, refused, figures_of, answered}
 use Rattle.refusal.specs.declared.Answer.{Answer}
 use Rattle.refusal.specs.declared.Answer.TheVariants.{Value, NoValue}
-use Rattle.refusal.specs.contracts.Answer.{enum as answers}
 
 module _ (number v : ℕ) where
   pub answered_value : number ≡ 0 → value v ≡ answered number v
@@ -37,10 +35,9 @@ answered_told number v k h = go (same? number 0)
     go (other e) = absurd (true≢false (ap is_value (h ∙ unless_refused_lem number (value v) (refused number) e)))
 
 -- the same refusal of another question
-pub refused_alike : (a : Answer) (number v w : ℕ) → tag_of (declared answers) a ≡ 1 → figures_of a ≡ answered number v → figures_of a ≡ answered number w
-refused_alike (Value x) number v w e h = absurd (omega arith)
-refused_alike (NoValue k) number v w e h = go (same? number 0)
+pub refused_alike : (a : Answer) (number v w : ℕ) {k : Refusal} → a ≡ NoValue k → figures_of a ≡ answered number v → figures_of a ≡ answered number w
+refused_alike a number v w {k} e h = rw e (go (same? number 0) (rw e at h))
   where
-    go : Same number 0 → refused (number_of k) ≡ answered number w
-    go (other q) = h ∙ unless_refused_lem number (value v) (refused number) q ∙ sym (unless_refused_lem number (value w) (refused number) q)
-    go (same q) = absurd (false≢true (ap is_value (h ∙ sym (answered_value number v q))))
+    go : Same number 0 → refused (number_of k) ≡ answered number v → refused (number_of k) ≡ answered number w
+    go (other q) h = h ∙ unless_refused_lem number (value v) (refused number) q ∙ sym (unless_refused_lem number (value w) (refused number) q)
+    go (same q) h = absurd (false≢true (ap is_value (h ∙ sym (answered_value number v q))))

@@ -9,6 +9,7 @@ use Rattle.ranks.specs.Ranks.{oriented, oriented_rank}
 use Rattle.build.proofs.Strings.{oriented_other, symbols_length, symbols_entry}
 use Rattle.build.proofs.Settling.{Scanning, scan_starts, scan_ends, scan_goes, scan_stops}
 use Rattle.build.proofs.scan_symbols.Goals as goal
+use Rattle.build.proofs.scan_symbols.Goals.{then-r-m+else-first-other, else-r-m}
 
 pub returns-then-first-other : goal.returns-then-first-other
 returns-then-first-other c =
@@ -24,12 +25,12 @@ pub loop-m-init : goal.loop-m-init
 loop-m-init c =
     let symbols : List ℕ = c.args.symbols.now in
     let starts : let g = c.args in Scanning g.n (oriented g.reverse symbols) g.l g.r g.from g.equal g.unequal g.from g.equal = scan_starts _ _ _ _ _ _ _ (symbols_length c.args.reverse symbols ∙ c.requires.0) (omega arith) in
-    ⊎_elim
-    (λ w.
-    let d : tie.After-shared-slice-known3 invariant-loop decreases-loop = record { before = record { before = record { before = c; if1 = w.0 }; shared-slice-known2 = w.1 }; shared-slice-known3 = w.2 } in
-    scan_goes _ _ _ _ _ _ _ starts w.0.taken _ _ (first_left d) (first_right d) (ap (oriented_rank c.args.reverse) w.3.left) w.4 w.5)
-    (λ w. rw (w.1, w.2) starts)
-    c.if-r-m.branch
+    elim c.if-r-m.branch [ then-r-m+else-first-other w ↦
+    (let g = c.args in
+    let first_left : oriented_rank g.reverse (get_or symbols (g.l + g.from) 0) ≡ get_or (oriented g.reverse symbols) (g.l + g.from) 0 = symbols_entry g.reverse symbols (g.l + g.from) (omega arith) in
+    let first_right : oriented_rank g.reverse (get_or symbols (g.r + g.from) 0) ≡ get_or (oriented g.reverse symbols) (g.r + g.from) 0 = symbols_entry g.reverse symbols (g.r + g.from) (omega arith) in
+    scan_goes _ _ _ _ _ _ _ starts w.if-r-m.true _ _ first_left first_right (ap (oriented_rank g.reverse) w.if-first-other.false) w.m-is w.alike-is)
+    | else-r-m w ↦ rw (w.m-is, w.alike-is) starts ]
 
 pub returns-then-x-y : goal.returns-then-x-y
 returns-then-x-y c =

@@ -5,4 +5,4 @@ use Rattle.build.proofs.Settling.{same_pair}
 use Rattle.build.proofs.State.stop.Goals as goal
 
 pub returns : goal.returns
-returns c = (same_pair (omega arith) (omega arith) (omega arith) (omega arith) (omega arith), refl)
+returns c = record { result_value = same_pair (omega arith) (omega arith) (omega arith) (omega arith) (omega arith); rows_value = refl }

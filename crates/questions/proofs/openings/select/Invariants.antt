@@ -1,0 +1,23 @@
+-- The loops of `questions::select`.
+use mathlib.Core.Path.{◌≡◌, sym, ap, ◌∙◌}
+use mathlib.Core.Bool.{true, false}
+use mathlib.Core.List.{List}
+use mathlib.Core.Logic.{◌≢◌}
+use Prim.Native.Nat.{ℕ, suc, ◌+◌, ◌-◌, ◌*◌, ◌≤◌, ◌<◌}
+use native.Mathlib.Omega.{arith}
+use borrow.Author.Rules.{rules}
+use Rattle.refusal.specs.Conditions.{bit_of, openings}
+use Rattle.excess.proofs.Bits.{read_bit}
+use Rattle.shape.proofs.Heights.{opens, shuts}
+use Rattle.questions.proofs.openings.select.Given as goal
+
+-- m bits of byte j are passed, and so many openings are still to pass
+pub record Passing (t : List ℕ) (i j left m : ℕ) : Type 0 where
+  pub within : m ≤ 8
+  pub count : openings t (8 * j + m) + left ≡ i
+
+abbrev pub invariant-loop-m : goal.invariant-loop-m
+invariant-loop-m l = Passing l.tree l.i l.j l.left l.m
+
+abbrev pub decreases-loop-m : goal.decreases-loop-m
+decreases-loop-m l = 8 - l.m

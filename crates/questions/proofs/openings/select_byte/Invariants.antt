@@ -1,0 +1,14 @@
+-- The loops of `questions::select_byte`.
+use mathlib.Core.Path.{◌≡◌}
+use Prim.Native.Nat.{◌+◌, ◌-◌, ◌*◌}
+use native.Mathlib.Omega.{arith}
+use lib.ListN.{length}
+use Rattle.refusal.specs.Conditions.{openings}
+use Rattle.questions.proofs.Counting.{Passing, passed_bytes, counted_byte}
+use Rattle.questions.proofs.openings.select_byte.Given as goal
+
+abbrev pub invariant-loop-byte : goal.invariant-loop-byte
+invariant-loop-byte l = Passing l.tree l.i l.byte l.left
+
+abbrev pub decreases-loop-byte : goal.decreases-loop-byte
+decreases-loop-byte l = length l.tree - l.byte

@@ -1,0 +1,10 @@
+-- `small_trees::is_outside` meets its contract.
+use native.Mathlib.Omega.{arith}
+use borrow.Author.Tests.{eq-eqb, ne_eqb}
+use Rattle.small_trees.proofs.is_outside.Goals as goal
+
+pub returns-then-size-eq0 : goal.returns-then-size-eq0
+returns-then-size-eq0 c = rw (eq-eqb c.args.size 0 (omega (arith, c.if-size-eq0.true)))
+
+pub returns-else-size-eq0 : goal.returns-else-size-eq0
+returns-else-size-eq0 c = rw (ne_eqb c.args.size 0 c.if-size-eq0.false)
