@@ -1,14 +1,15 @@
 -- A buffer filled with a file.
 use mathlib.Core.Path.{◌≡◌, refl, sym, ap, ◌∙◌}
-use mathlib.Core.List.{List, [], ◌∷◌, ◌++◌}
+use mathlib.Core.List.{List, [], ◌∷◌, ◌++◌, append-nil}
 use Prim.Native.Nat.{ℕ, ◌+◌, ◌*◌, ◌/◌, ◌%◌, ◌≤◌, ◌<◌}
 use native.Mathlib.Omega.{arith}
-use lib.ListN.{length, take, drop, set, length-set}
-use lib.Seq.{take-length, take_all}
+use lib.ListN.{length, take, drop, set, length-set, length-drop}
+use lib.Seq.{take-length, take_all, length-take-le}
+use Rattle.std.proofs.lemmas.List.{drop_all}
 use Rattle.suffix.specs.Search.{sum_below}
 use Rattle.suffix.specs.Tree.{tree_length}
 use Rattle.writing.specs.Writing.{Wrote}
-use Rattle.writing.proofs.Writes.{wrote_none, wrote_then, wrote_byte}
+use Rattle.writing.proofs.Writes.{wrote_none, wrote_then, wrote_byte, wrote_part}
 use Rattle.cabinet.specs.LittleEndian.{bytes_of, four_bytes}
 use Rattle.cabinet.specs.File.{LYN2, mark_bytes, contents_end, contents, body_bytes, count_in}
 use Rattle.cabinet.specs.Refusals.{Allowed}
@@ -67,3 +68,13 @@ mark_put before after e z = let w = e ∙ ap (λ l. l ++ drop 4 before) (spelled
 -- a text that fills the buffer
 pub filled : {before after t : List ℕ} {z : ℕ} → Wrote before after t 0 z → z ≡ length after → after ≡ t
 filled {after = after} {z = z} W e = sym (take_all z after (omega arith)) ∙ W.text
+
+-- a text copied over all that is behind place x
+pub rest_put : (a s e : List ℕ) (x k : ℕ) → x + length s ≡ length a → length s ≡ k → e ≡ s → Wrote a (take x a ++ (e ++ drop k (drop x a))) s x (x + length s)
+rest_put a s e x k h g w = wrote_part a s e x k (length s) (omega arith) (omega arith) refl (w ∙ whole)
+  where
+    none : drop (length s) (take k (drop x a)) ≡ []
+    none = drop_all (length s) (take k (drop x a)) (omega (arith, length-take-le k (drop x a) (omega (arith, length-drop x a))))
+
+    whole : s ≡ take (length s) s ++ drop (length s) (take k (drop x a))
+    whole = rw (none, take_all (length s) s (omega arith)) (sym (append-nil s))

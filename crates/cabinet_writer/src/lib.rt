@@ -52,10 +52,10 @@ fn fill(counts: &[u32], trees: &[u8], file: &mut [u8])
     requires { Fitting counts.now trees.now × (length file.old ≡ contents_end (length counts.now) + length trees.now) }
     ensures { file.new ≡ cabinet counts.now trees.now }
 {
-    bytes::copy(b"LYN2", file);
+    file[..4].copy_from_slice(b"LYN2");
     put_number(file, 4, counts.len() as u32);
     put_contents(counts, file);
-    bytes::copy(trees, &mut file[8 + 8 * counts.len()..]);
+    file[8 + 8 * counts.len()..].copy_from_slice(trees);
 }
 
 // Writes the trees of these letter counts, end to end, to a buffer of the file's size. Refused, the buffer is as it was.

@@ -32,7 +32,7 @@ returns-in-Refused c =
     let found : verdict_number c.verdict_on-verdict.result ≡ next_refusal c.args.size c.args.tree.now = c.verdict_on-verdict.ensures ∙ sym (next_tree_lem c.args.size c.args.tree.now size_in) in
     let g = c.in-Refused in
     let e = sym (ap verdict_number g.is) ∙ found in
-    told _ (λ z. omega (arith, positive g.k, e)) e
+    told _ (λ z. omega (arith, positive g.refusal, e)) e
 
 pub returns-in-Accepted : goal.returns-in-Accepted
 returns-in-Accepted c =

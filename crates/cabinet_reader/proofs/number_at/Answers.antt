@@ -1,0 +1,9 @@
+-- `cabinet_reader::number_at` meets its contract.
+use mathlib.Core.Path.{◌∙◌}
+use native.Mathlib.Omega.{arith}
+use borrow.Author.Rules.{rules}
+use Rattle.cabinet.proofs.LittleEndian.{number_is}
+use Rattle.cabinet_reader.proofs.number_at.Goals as goal
+
+pub returns : goal.returns
+returns c = c.joined.ensures ∙ number_is c.args.file.now c.args.at c.requires (omega arith) (omega arith) (omega arith) (omega arith)
