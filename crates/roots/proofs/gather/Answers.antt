@@ -20,7 +20,7 @@ pub returns-then-n-gt1000000 : goal.returns-then-n-gt1000000
 returns-then-n-gt1000000 c =
     let y : List ℕ = string_of c.args.wide c.args.letters.now c.args.symbols.now in
     let work : List (List ℕ) = let g = c.args in
-    g.previous.now ∷ g.next.now ∷ g.previous_match.now ∷ g.next_match.now ∷ g.reverse-next.now ∷ g.reverse-match.now ∷ [] in
+    g.previous.now ∷ g.next.now ∷ g.previous_match.now ∷ g.next_match.now ∷ g.reverse_next.now ∷ g.reverse_match.now ∷ [] in
     let refusal : ℕ → ℕ = λ n. work_refusal n (map length work) in
     refused y work _ (says_one c.string_length-n.result (map length work) (omega arith) (omega arith) ∙ ap refusal c.string_length-n.ensures)
 
@@ -28,48 +28,48 @@ pub returns-then-any_off : goal.returns-then-any_off
 returns-then-any_off c =
     let y : List ℕ = string_of c.args.wide c.args.letters.now c.args.symbols.now in
     let work : List (List ℕ) = let g = c.args in
-    g.previous.now ∷ g.next.now ∷ g.previous_match.now ∷ g.next_match.now ∷ g.reverse-next.now ∷ g.reverse-match.now ∷ [] in
+    g.previous.now ∷ g.next.now ∷ g.previous_match.now ∷ g.next_match.now ∷ g.reverse_next.now ∷ g.reverse_match.now ∷ [] in
     let refusal : ℕ → ℕ = λ n. work_refusal n (map length work) in
     refused y work _ (says_two c.string_length-n.result (map length work) (omega arith) c.any_off.ensures c.if-any_off.true (omega arith) ∙ ap refusal c.string_length-n.ensures)
 
 pub tables_of-requires : goal.tables_of-requires
 tables_of-requires c =
     let work : List (List ℕ) = let g = c.args in
-    g.previous.now ∷ g.next.now ∷ g.previous_match.now ∷ g.next_match.now ∷ g.reverse-next.now ∷ g.reverse-match.now ∷ [] in
+    g.previous.now ∷ g.next.now ∷ g.previous_match.now ∷ g.next_match.now ∷ g.reverse_next.now ∷ g.reverse_match.now ∷ [] in
     let refusal : ℕ → ℕ = λ n. work_refusal n (map length work) in
     let taken : refusal c.string_length-n.result ≡ 0 = sym (says_none c.string_length-n.result (map length work) (omega arith) c.any_off.ensures c.if-any_off.false (omega arith)) in
     let fits : let g = c.args in
-    Fitting c.string_length-n.result (length g.previous.now) (length g.next.now) (length g.previous_match.now) (length g.next_match.now) (length g.reverse-next.now) (length g.reverse-match.now) = fitting _ _ _ _ _ _ _ taken in
+    Fitting c.string_length-n.result (length g.previous.now) (length g.next.now) (length g.previous_match.now) (length g.next_match.now) (length g.reverse_next.now) (length g.reverse_match.now) = fitting _ _ _ _ _ _ _ taken in
     let y : List ℕ = string_of c.args.wide c.args.letters.now c.args.symbols.now in
     let long : length y ≡ c.string_length-n.result = sym c.string_length-n.ensures in
     let s = fits in
-    ((long, s.few), (s.previous, s.next, s.previous_match, s.next_match))
+    record { symbols_len = (long, s.few); previous_len = (s.previous, s.next, s.previous_match, s.next_match) }
 
 pub tables_of-requires-2 : goal.tables_of-requires-2
 tables_of-requires-2 c =
     let work : List (List ℕ) = let g = c.args in
-    g.previous.now ∷ g.next.now ∷ g.previous_match.now ∷ g.next_match.now ∷ g.reverse-next.now ∷ g.reverse-match.now ∷ [] in
+    g.previous.now ∷ g.next.now ∷ g.previous_match.now ∷ g.next_match.now ∷ g.reverse_next.now ∷ g.reverse_match.now ∷ [] in
     let refusal : ℕ → ℕ = λ n. work_refusal n (map length work) in
     let taken : refusal c.string_length-n.result ≡ 0 = sym (says_none c.string_length-n.result (map length work) (omega arith) c.any_off.ensures c.if-any_off.false (omega arith)) in
     let fits : let g = c.args in
-    Fitting c.string_length-n.result (length g.previous.now) (length g.next.now) (length g.previous_match.now) (length g.next_match.now) (length g.reverse-next.now) (length g.reverse-match.now) = fitting _ _ _ _ _ _ _ taken in
+    Fitting c.string_length-n.result (length g.previous.now) (length g.next.now) (length g.previous_match.now) (length g.next_match.now) (length g.reverse_next.now) (length g.reverse_match.now) = fitting _ _ _ _ _ _ _ taken in
     let y : List ℕ = string_of c.args.wide c.args.letters.now c.args.symbols.now in
     let long : length y ≡ c.string_length-n.result = sym c.string_length-n.ensures in
     let s = fits in
-    ((long, s.few), (c.previous-1.given ∙ s.previous, s.reverse_next, c.previous_match-1.given ∙ s.previous_match, s.reverse_match))
+    record { symbols_len = (long, s.few); previous_len = (c.previous-1.given ∙ s.previous, s.reverse_next, c.previous_match-1.given ∙ s.previous_match, s.reverse_match) }
 
 pub collect-count-requires : goal.collect-count-requires
 collect-count-requires c =
     let work : List (List ℕ) = let g = c.args in
-    g.previous.now ∷ g.next.now ∷ g.previous_match.now ∷ g.next_match.now ∷ g.reverse-next.now ∷ g.reverse-match.now ∷ [] in
+    g.previous.now ∷ g.next.now ∷ g.previous_match.now ∷ g.next_match.now ∷ g.reverse_next.now ∷ g.reverse_match.now ∷ [] in
     let refusal : ℕ → ℕ = λ n. work_refusal n (map length work) in
     let taken : refusal c.string_length-n.result ≡ 0 = sym (says_none c.string_length-n.result (map length work) (omega arith) c.any_off.ensures c.if-any_off.false (omega arith)) in
     let fits : let g = c.args in
-    Fitting c.string_length-n.result (length g.previous.now) (length g.next.now) (length g.previous_match.now) (length g.next_match.now) (length g.reverse-next.now) (length g.reverse-match.now) = fitting _ _ _ _ _ _ _ taken in
+    Fitting c.string_length-n.result (length g.previous.now) (length g.next.now) (length g.previous_match.now) (length g.next_match.now) (length g.reverse_next.now) (length g.reverse_match.now) = fitting _ _ _ _ _ _ _ taken in
     let y : List ℕ = string_of c.args.wide c.args.letters.now c.args.symbols.now in
     let long : length y ≡ c.string_length-n.result = sym c.string_length-n.ensures in
     let s = fits in
-    ((long, s.few, c.previous-2-1.given ∙ c.previous-1.given ∙ s.previous, c.previous_match-2-1.given ∙ c.previous_match-1.given ∙ s.previous_match), (c.tables_of.ensures, c.tables_of-2.ensures))
+    record { symbols_len = (long, s.few, c.previous-2-1.given ∙ c.previous-1.given ∙ s.previous, c.previous_match-2-1.given ∙ c.previous_match-1.given ∙ s.previous_match); tabled = c.tables_of.ensures; tabled_2 = c.tables_of-2.ensures }
 
 pub shape_of-previous : goal.shape_of-previous
 shape_of-previous c = c.previous-3-1.given ∙ c.previous-2-1.given ∙ c.previous-1.given
@@ -93,13 +93,13 @@ pub returns : goal.returns
 returns c =
     let y : List ℕ = string_of c.args.wide c.args.letters.now c.args.symbols.now in
     let work : List (List ℕ) = let g = c.args in
-    g.previous.now ∷ g.next.now ∷ g.previous_match.now ∷ g.next_match.now ∷ g.reverse-next.now ∷ g.reverse-match.now ∷ [] in
+    g.previous.now ∷ g.next.now ∷ g.previous_match.now ∷ g.next_match.now ∷ g.reverse_next.now ∷ g.reverse_match.now ∷ [] in
     let refusal : ℕ → ℕ = λ n. work_refusal n (map length work) in
     let taken : refusal c.string_length-n.result ≡ 0 = sym (says_none c.string_length-n.result (map length work) (omega arith) c.any_off.ensures c.if-any_off.false (omega arith)) in
     let fits : let g = c.args in
-    Fitting c.string_length-n.result (length g.previous.now) (length g.next.now) (length g.previous_match.now) (length g.next_match.now) (length g.reverse-next.now) (length g.reverse-match.now) = fitting _ _ _ _ _ _ _ taken in
+    Fitting c.string_length-n.result (length g.previous.now) (length g.next.now) (length g.previous_match.now) (length g.next_match.now) (length g.reverse_next.now) (length g.reverse_match.now) = fitting _ _ _ _ _ _ _ taken in
     let long : length y ≡ c.string_length-n.result = sym c.string_length-n.ensures in
     let f = fits in
-    let u = c.collect-count.last.1.1.1.1 in
-    gathered y work (sym (ap refusal (sym long)) ∙ taken) (sym long) {u = lists u.0 u.1.0 u.1.1.0} c.collect-count.ensures
+    let u = c.collect-count.new in
+    gathered y work (sym (ap refusal (sym long)) ∙ taken) (sym long) {u = lists u.starts u.ends u.periods} c.collect-count.ensures
     _ (c.next_match-1.given ∙ f.next_match) (c.reverse_next-1.given ∙ f.reverse_next) (c.reverse_match-1.given ∙ f.reverse_match) c.clear_three.ensures (omega arith)

@@ -12,9 +12,9 @@ pub returns : goal.returns
 returns c =
     let g = c.args in
     let y = string_of g.wide g.letters.now g.symbols.now in
-    let e = sym (oriented_length greatest_rank g.reverse y ∙ c.requires.0.0) in
-    let u = c.build_tables.new.1.1.1.1 in
+    let e = sym (oriented_length greatest_rank g.reverse y ∙ c.requires.symbols_len.0) in
+    let u = c.build_tables.new in
     tabled y g.reverse {before = tables_of g.previous.now g.next.now g.previous_match.now g.next_match.now}
-    {after = tables_of u.0 u.1.0 u.1.1.0 u.1.1.1.0}
-    (record { few = omega (arith, c.requires.0.1, e); previous = c.requires.1.0 ∙ e; next = c.requires.1.1 ∙ e; previous_match = c.requires.1.2 ∙ e; next_match = c.requires.1.3 ∙ e })
+    {after = tables_of u.previous u.next u.previous_match u.next_match}
+    (record { few = omega (arith, c.requires.symbols_len.1, e); previous = c.requires.previous_len.0 ∙ e; next = c.requires.previous_len.1 ∙ e; previous_match = c.requires.previous_len.2 ∙ e; next_match = c.requires.previous_len.3 ∙ e })
     c.build_tables.ensures
