@@ -6,8 +6,7 @@ use native.Mathlib.Omega.{arith}
 use borrow.Author.Tests.{eq-eqb, ne_eqb}
 use Rattle.replies.specs.declared.PartReply.{PartReply}
 use Rattle.replies.specs.Replies.{part_reply}
-use Rattle.replies.proofs.part_reply.Statement.{statement}
-use Rattle.replies.proofs.part_reply.Tie as tie
+use Rattle.replies.proofs.part_reply.Goals as goal
 
 -- the two replies, by what is told of their members
 module _ (refusal position length : ℕ) {a b d : ℕ} where
@@ -17,11 +16,8 @@ module _ (refusal position length : ℕ) {a b d : ℕ} where
   taken : refusal ≡ 0 → a ≡ 0 → b ≡ position → d ≡ length → ◌≡◌ {A = PartReply} (record { refusal = a; start = b; length = d }) (part_reply refusal position length)
   taken h p q r = rw (eq-eqb refusal 0 h, part_reply, p, q, r)
 
-returns : tie.Need-returns
-returns c = refused _ _ _ c.if1.true (omega arith) (omega arith) (omega arith)
+pub returns-then-refused-ne0 : goal.returns-then-refused-ne0
+returns-then-refused-ne0 c = refused _ _ _ c.if-refused-ne0.true (omega arith) (omega arith) (omega arith)
 
-returns-2 : tie.Need-returns-2
-returns-2 c = taken _ _ _ c.if1.false (omega arith) (omega arith) (omega arith)
-
-pub part_reply_spec : {M : Type 1} → statement M
-part_reply_spec = tie.close (tie.spec returns returns-2)
+pub returns : goal.returns
+returns c = taken _ _ _ c.if-refused-ne0.false (omega arith) (omega arith) (omega arith)
