@@ -1,6 +1,8 @@
 // The tables program. Its stored input is the six bytes banana.
 #![tactic(auto)]
 
-fn main() {
-    tables_text::run();
+use std::io;
+
+fn main(rt: HostRuntime) -> io::Result<()> {
+    tables_text::run(&rt)
 }

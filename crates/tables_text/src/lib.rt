@@ -8,8 +8,10 @@ ghost use Rattle.tables_text.specs.Text.{tree_text, field, or_dash, figure, line
 ghost use Rattle.writing.specs.Writing.{Put};
 ghost use Rattle.tables_text.specs.Buffers.{Room, Nearests, WholeBuild, count_of, most_compared};
 
-use libc::{STDIN_FILENO, STDOUT_FILENO};
+use std::io::{self, Write};
+
 use outcome::Built;
+use reading::read_full;
 use suffix::tree_length;
 use writing::{put, put_byte, put_decimal, put_hexes};
 
@@ -189,10 +191,10 @@ fn text_buffer() -> [u8; 180000]
 }
 
 // Writes to standard output what render makes of the letters. What a call on a file descriptor writes is beyond a contract.
-fn print(letters: &[u8]) -> bool {
+fn print(rt: &impl Print, letters: &[u8]) -> io::Result<()> {
     let mut text = text_buffer();
     let n = render(letters, &mut text);
-    io::write_all(STDOUT_FILENO, &text[..n])
+    io::writer(rt).write_all(&text[..n])
 }
 
 // Room for 2,048 letters, and for one more that tells that there are too many.
@@ -203,8 +205,8 @@ fn letter_buffer() -> [u8; 2049]
 }
 
 // The program: reads standard input up to its end, or up to 2,049 bytes, and prints the text for these letters.
-pub fn run() {
+pub fn run(rt: &(impl Input + Print)) -> io::Result<()> {
     let mut letters = letter_buffer();
-    let n = io::read_full(STDIN_FILENO, &mut letters);
-    print(&letters[..n]);
+    let n = read_full(&mut rt.reader(), &mut letters)?;
+    print(rt, &letters[..n])
 }

@@ -1,14 +1,16 @@
 // The program that prints every tree of a size: line by line, put into a buffer and written to standard output.
 #![tactic(auto)]
 
-ghost use Rattle.std.specs.Prelude.{◌≡◌, ◌≤◌, length};
+ghost use Rattle.std.specs.Prelude.{◌≡◌, ◌≤◌, length, IfOk};
 ghost use Rattle.suffix.specs.Tree.{tree_length};
 ghost use Rattle.writing.specs.Writing.{Put};
 ghost use Rattle.small_trees.specs.Answers.{going_of, next_refusal};
 ghost use Rattle.trees_text.specs.Text.{symbols_text, line_of, line_text, size_text, program_text};
 ghost use Rattle.trees_text.specs.Lines.{stops, LineMade, Begun};
 
-use libc::{STDIN_FILENO, STDOUT_FILENO};
+use std::io::{self, Write};
+
+use reading::read_full;
 use refusal::Verdict;
 use small_trees::Step;
 use suffix::tree_length;
@@ -108,36 +110,37 @@ fn line_room() -> [u8; 300]
 
 // Hands one line after the other to standard output, and answers how many bytes these are. What a call on a file descriptor writes is beyond a
 // contract.
-fn print_lines(size: usize, tree: &mut [u8], text: &mut [u8]) -> usize
+fn print_lines(rt: &impl Print, size: usize, tree: &mut [u8], text: &mut [u8]) -> io::Result<usize>
     requires { (length tree.old ≡ tree_length size) × (300 ≤ length text.old) }
-    ensures { result ≡ length (size_text size) }
+    ensures { IfOk result (λ bytes. bytes ≡ length (size_text size)) }
 {
     let mut line = begin(size, tree, text);
     let mut bytes = 0;
     loop {
         let n = line.length;
-        io::write_all(STDOUT_FILENO, &text[..n]);
+        io::writer(rt).write_all(&text[..n])?;
         bytes += n;
         if line.last {
-            return bytes;
+            return Ok(bytes);
         }
         line = make_line(size, tree, text);
     }
 }
 
-fn print(input: &[u8]) -> usize
-    ensures { result ≡ length (program_text input.now) }
+fn print(rt: &impl Print, input: &[u8]) -> io::Result<usize>
+    ensures { IfOk result (λ bytes. bytes ≡ length (program_text input.now)) }
 {
     let size = size_in(input);
     let bytes = tree_length(size);
     let mut tree = tree_room();
     let mut text = line_room();
-    print_lines(size, &mut tree[..bytes], &mut text)
+    print_lines(rt, size, &mut tree[..bytes], &mut text)
 }
 
 // The program: reads standard input up to its end, or up to 4 bytes, which are more than a size has.
-pub fn run() {
+pub fn run(rt: &(impl Input + Print)) -> io::Result<()> {
     let mut input = [0u8; 4];
-    let n = io::read_full(STDIN_FILENO, &mut input);
-    print(&input[..n]);
+    let n = read_full(&mut rt.reader(), &mut input)?;
+    print(rt, &input[..n])?;
+    Ok(())
 }
