@@ -8,10 +8,9 @@ ghost use Rattle.tables_text.specs.Text.{tree_text, field, or_dash, figure, line
 ghost use Rattle.writing.specs.Writing.{Put};
 ghost use Rattle.tables_text.specs.Buffers.{Room, Nearests, WholeBuild, count_of, most_compared};
 
-use std::io::{self, Write};
-
 use outcome::Built;
 use reading::read_full;
+use std::io::{self, Write};
 use suffix::tree_length;
 use writing::{put, put_byte, put_decimal, put_hexes};
 

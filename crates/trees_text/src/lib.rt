@@ -8,11 +8,10 @@ ghost use Rattle.small_trees.specs.Answers.{going_of, next_refusal};
 ghost use Rattle.trees_text.specs.Text.{symbols_text, line_of, line_text, size_text, program_text};
 ghost use Rattle.trees_text.specs.Lines.{stops, LineMade, Begun};
 
-use std::io::{self, Write};
-
 use reading::read_full;
 use refusal::Verdict;
 use small_trees::Step;
+use std::io::{self, Write};
 use suffix::tree_length;
 use tree_size::size_in;
 use writing::{put, put_byte, put_decimal, put_hexes};

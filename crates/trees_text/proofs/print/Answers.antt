@@ -1,0 +1,27 @@
+-- `trees_text::print` meets its contract: a size of two digits has a tree of at most 25 bytes.
+use mathlib.Core.Path.{◌≡◌, sym, ap, ◌∙◌}
+use Prim.Native.Nat.{◌≤◌}
+use native.Mathlib.Omega.{arith}
+use lib.ListN.{length, take}
+use lib.Seq.{length-take-le}
+use Rattle.trees_text.specs.Text.{size_text, program_text}
+use Rattle.tree_size.proofs.Input.{size_most}
+use Rattle.trees_text.proofs.print.Goals as goal
+
+pub slice_bounds-tree-end : goal.slice_bounds-tree-end
+slice_bounds-tree-end g c =
+    omega (arith, c.tree_length-bytes.ensures, c.size_in-size.ensures, size_most c.args.input.now, c.tree_room-tree.ensures)
+
+pub slice_bounds-print_lines-end : goal.slice_bounds-print_lines-end
+slice_bounds-print_lines-end g c =
+    let room : c.tree_length-bytes.result ≤ length c.tree_room-tree.result = omega (arith, c.tree_length-bytes.ensures, c.size_in-size.ensures, size_most c.args.input.now, c.tree_room-tree.ensures) in
+    sym (length-take-le c.tree_length-bytes.result c.tree_room-tree.result room)
+
+pub print_lines-requires : goal.print_lines-requires
+print_lines-requires g c =
+    let room : c.tree_length-bytes.result ≤ length c.tree_room-tree.result = omega (arith, c.tree_length-bytes.ensures, c.size_in-size.ensures, size_most c.args.input.now, c.tree_room-tree.ensures) in
+    (length-take-le c.tree_length-bytes.result c.tree_room-tree.result room ∙ c.tree_length-bytes.ensures, omega (arith, c.line_room-text.ensures))
+
+pub returns : goal.returns
+unfolding program_text
+returns g c = rw c.size_in-size.ensures at c.print_lines.ensures

@@ -1,0 +1,16 @@
+-- The loops of `trees_text::put_symbols`.
+use mathlib.Core.Path.{◌≡◌, refl}
+use Prim.Native.Nat.{◌-◌, ◌≤◌}
+use native.Mathlib.Omega.{arith}
+use lib.ListN.{length}
+use Rattle.writing.specs.Writing.{Put}
+use Rattle.writing.proofs.Writes.{put_none, put_then}
+use Rattle.trees_text.specs.Text.{symbols_text}
+use Rattle.trees_text.proofs.Lines.{symbols_more}
+use Rattle.trees_text.proofs.put_symbols.Given as goal
+
+abbrev pub invariant-loop-k : goal.invariant-loop-k
+invariant-loop-k l = (l.k ≤ length l.symbols) × (l.k-end ≡ length l.symbols) × (length l.out ≡ length l.initial.out) × Put l.initial.out l.out (symbols_text l.symbols l.k) l.at l.end
+
+abbrev pub decreases-loop-k : goal.decreases-loop-k
+decreases-loop-k l = length l.symbols - l.k
