@@ -3,7 +3,7 @@ use mathlib.Core.Path.{◌≡◌, sym, ap, ap₂, ◌∙◌}
 use Prim.Native.Nat.{ℕ, zero, suc, ◌+◌, ◌-◌, ◌*◌, ◌/◌, ◌%◌, ◌^◌, ◌≤◌, ◌<◌, max}
 use native.Mathlib.Omega.{arith}
 use lib.Dec.{eqb}
-use lib.IntN.{ℤ, sub_ℕ, ◌+ℤ◌}
+use lib.IntN.{sub_ℕ, ◌+ℤ◌}
 use Rattle.suffix.specs.Search.{count_below}
 use Rattle.suffix.proofs.Cases.{Tri, lt, eq, gt, tri, Test, holds, fails, test}
 use Rattle.suffix.proofs.Search.{count_yes, count_no, count_same}

@@ -11,7 +11,7 @@ use Rattle.suffix.proofs.Search.{tabulate_entry, tabulate_same}
 use Rattle.suffix.proofs.Laws.{all_rows_give_all_entries}
 use Rattle.refusal.specs.Numbers.{lowest, lowest_from}
 use Rattle.refusal.specs.Conditions.{read_refusal, tree_refusal}
-use Rattle.outcome.specs.Built.{Lent, lent_after, refusal_of, lent_at_exit}
+use Rattle.outcome.specs.Built.{Lent, lent_after, refusal_of}
 use Rattle.outcome.proofs.Answers.{Accepted, accepted, left_built}
 use Rattle.shape.specs.Claims.{ReadsAs, for_none}
 use Rattle.brackets.specs.Answers as brackets

@@ -9,7 +9,7 @@ use Rattle.refusal.proofs.Numbers.{positive, unless_taken, unless_refused_lem}
 use Rattle.refusal.specs.declared.Refusal.{Refusal}
 use Rattle.refusal.specs.Answers.{Figures, value, refused, figures_of, answered}
 use Rattle.refusal.specs.declared.Answer.{Answer}
-use Rattle.refusal.specs.declared.Answer.TheVariants.{Value, NoValue}
+use Rattle.refusal.specs.declared.Answer.TheVariants.{NoValue}
 
 module _ (number v : ℕ) where
   pub answered_value : number ≡ 0 → value v ≡ answered number v

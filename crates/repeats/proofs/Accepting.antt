@@ -11,7 +11,6 @@ use Rattle.suffix.proofs.Cases.{Same, same, other, same?, Test, holds, fails, te
 use Rattle.repeats.specs.Roots.{left_from, left_of, accepts}
 use Rattle.repeats.proofs.Periods.{Left}
 use Rattle.repeats.proofs.Meaning.{and_true, letter}
-use Rattle.repeats.proofs.Examples
 
 pub left_most : (y : List ℕ) (c i j : ℕ) → left_from y c i j ≤ i
 unfolding left_from

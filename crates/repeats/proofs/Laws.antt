@@ -26,7 +26,6 @@ use Rattle.repeats.proofs.Ordering.{before_told, before_yes}
 use Rattle.repeats.proofs.Listing.{lists_runs, lists_only}
 use Rattle.repeats.proofs.Roots.{accepted_within, reported_run, reported_root, root_reports, run_root, root_once, one_order}
 use Rattle.repeats.proofs.Gathering.{gathered_is, fewer_runs, runs_most}
-use Rattle.repeats.proofs.AnswerExamples
 
 pub tests_tell_runs : claims.TestsTellRuns
 tests_tell_runs y r = (run_told y r, tell_run y r)

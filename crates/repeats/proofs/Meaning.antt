@@ -15,7 +15,6 @@ use Rattle.suffix.proofs.Order.{extended, extended_in, extended_out}
 use Rattle.repeats.specs.Runs.{Run, IsRun, is_run}
 use Rattle.repeats.proofs.Periods.{Ends, RunOf}
 use Rattle.repeats.proofs.Orders.{SamePattern}
-use Rattle.repeats.proofs.Examples
 
 pub and_true : {a b : Bool} → a ≡ true → b ≡ true → a && b ≡ true
 and_true p q = rw (p, q)

@@ -12,7 +12,6 @@ use Rattle.suffix.proofs.Cases.{Tri, lt, eq, gt, tri, Test, holds, fails, test}
 use Rattle.repeats.specs.Runs.{Run}
 use Rattle.repeats.specs.Report.{Before, earlier, shorter, before, Ordered, none, then}
 use Rattle.repeats.specs.Gathered.{insert}
-use Rattle.repeats.proofs.Examples
 
 before_not : {r q : Run} → Before r q → Before q r → ⊥
 before_not (earlier h) (earlier g) = omega arith

@@ -6,7 +6,6 @@ use native.Mathlib.Omega.{arith}
 use Rattle.suffix.proofs.Cases.{Tri, lt, eq, gt, tri, le_unless}
 use Rattle.suffix.proofs.Sequence.{Agree, Less, Match, match_sym, match_letter, less_match}
 use Rattle.suffix.proofs.Edges.{NextAt, next_edge, unbordered}
-use Rattle.repeats.proofs.Examples
 
 module _ (f : ℕ → ℕ) where
   -- letters before n, none from n on

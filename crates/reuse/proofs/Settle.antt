@@ -16,7 +16,7 @@ use Rattle.suffix.proofs.Edges.{Edge, no_cross, edge_prev, edge_next}
 use Rattle.suffix.proofs.Order.{extended, lce_match, agree_fits}
 use Rattle.suffix.proofs.Nearest.{previous_is, next_is, next_at_lem}
 use Rattle.suffix.proofs.Rows.{previous_after_in, previous_match_after_in, previous_match_some, next_after_in, next_after_out, next_match_after_in, next_match_some}
-use Rattle.reuse.specs.Steps.{Progress, ScanReport, SettledPair, scan, scanned as scannedPair, scan_from, reuse, settle}
+use Rattle.reuse.specs.Steps.{Progress, ScanReport, SettledPair, scanned as scannedPair, scan_from, reuse, settle}
 use Rattle.reuse.proofs.Windows.{Window, match_back, match_to_end, less_back, edge_shift}
 use Rattle.reuse.proofs.Scan.{Told, Reported, scan_told}
 

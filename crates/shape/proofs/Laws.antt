@@ -9,7 +9,6 @@ use lib.ListN.{length, get_or}
 use lib.Seq.{ext_get_or}
 use borrow.Author.Tests.{eqb-true, eqb-false}
 use Rattle.suffix.specs.Search.{tabulate}
-use Rattle.suffix.specs.Nearest.{previous, next}
 use Rattle.suffix.specs.Tree.{parentheses, byte_of, tree_length, forest_after, tree_after, tree_bytes}
 use Rattle.suffix.proofs.Cases.{Tri, lt, eq, gt, tri, Test, holds, fails, test, le_unless}
 use Rattle.suffix.proofs.Search.{tabulate_length, tabulate_entry, tabulate_same}

@@ -15,7 +15,6 @@ use Rattle.suffix.proofs.Sequence.{Less, less_match}
 use Rattle.suffix.proofs.Edges.{NextAt, next_edge, unbordered}
 use Rattle.suffix.proofs.Order.{extended, extended_in, extended_out, extended_drop, less_true, less_false}
 use Rattle.suffix.proofs.Nearest.{next_at_lem, next_le}
-use Rattle.suffix.proofs.Examples
 
 extended_take_in : (k : ℕ) (s : List ℕ) (t : ℕ) → t < k → extended (take k s) t ≡ extended s t
 extended_take_in zero s t h = absurd (omega arith)

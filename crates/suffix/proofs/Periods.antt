@@ -9,7 +9,6 @@ use lib.ListN.{get_or}
 use borrow.Author.Tests.{eq-eqb, eqb-true}
 use Rattle.suffix.specs.Periods.{HasPeriod, has_period}
 use Rattle.suffix.proofs.Search.{all_true, all_at}
-use Rattle.suffix.proofs.RotationExamples
 
 pub period_told : (y : List ℕ) (s e p : ℕ) → has_period y s e p ≡ true → HasPeriod y s e p
 unfolding has_period

@@ -14,7 +14,6 @@ use Rattle.suffix.specs.Periods.{rotation, cycled, CycledLess}
 use Rattle.suffix.proofs.Cases.{Tri, lt, eq, gt, tri, Same, same, other, same?}
 use Rattle.suffix.proofs.Search.{tabulate_is}
 use Rattle.suffix.proofs.Periodic.{Period}
-use Rattle.suffix.proofs.RotationExamples
 
 -- ---- the order of two strings of one length: the first differing letter
 

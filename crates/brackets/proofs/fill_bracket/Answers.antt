@@ -2,7 +2,6 @@
 use mathlib.Core.Path.{◌≡◌}
 use mathlib.Core.Bool.{Bool}
 use native.Mathlib.Omega.{arith}
-use borrow.Author.Rules.{rules}
 use Rattle.brackets.specs.Steps.{Filled, filled_of, bracket_filled}
 use Rattle.brackets.proofs.fill_bracket.Goals as goal
 

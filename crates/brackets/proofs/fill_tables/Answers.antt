@@ -1,9 +1,9 @@
 -- `brackets::fill_tables` meets its contract.
-use Prim.Native.Nat.{◌+◌, ◌-◌, ◌*◌, ◌/◌, ◌≤◌}
+use Prim.Native.Nat.{◌+◌, ◌*◌}
 use native.Mathlib.Omega.{arith}
 use Rattle.excess.proofs.Bits.{read_bit}
 use Rattle.brackets.specs.Steps.{filled_of}
-use Rattle.brackets.proofs.Filling.{Filling, filling_start, filling_at, filling_end, Next, next_fillable, next_read}
+use Rattle.brackets.proofs.Filling.{filling_start, filling_at, filling_end, Next, next_fillable, next_read}
 use Rattle.brackets.proofs.fill_tables.Goals as goal
 
 pub loop-j-init : goal.loop-j-init

@@ -1,9 +1,7 @@
 -- The loops of `brackets::fill_tables`.
 use Prim.Native.Nat.{◌+◌, ◌-◌, ◌*◌, ◌/◌, ◌≤◌}
-use native.Mathlib.Omega.{arith}
-use Rattle.excess.proofs.Bits.{read_bit}
 use Rattle.brackets.specs.Steps.{filled_of}
-use Rattle.brackets.proofs.Filling.{Filling, filling_start, filling_at, filling_end, Next, next_fillable, next_read}
+use Rattle.brackets.proofs.Filling.{Filling}
 use Rattle.brackets.proofs.fill_tables.Given as goal
 
 abbrev pub invariant-loop-m : goal.invariant-loop-m

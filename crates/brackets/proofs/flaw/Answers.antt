@@ -3,7 +3,6 @@ use mathlib.Core.Path.{◌≡◌, sym, ◌∙◌}
 use mathlib.Core.Bool.{false}
 use Prim.Native.Nat.{◌*◌}
 use native.Mathlib.Omega.{arith}
-use borrow.Author.Rules.{rules}
 use Rattle.refusal.specs.Conditions.{bit_of, spare_bit_set}
 use Rattle.shape.proofs.Conditions.{flaw_6, flaw_7, flaw_8, flaw_0}
 use Rattle.search.proofs.Laws.{TellsOn, forward_tells}

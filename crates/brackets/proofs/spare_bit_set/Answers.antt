@@ -2,7 +2,6 @@
 use mathlib.Core.Path.{sym}
 use Prim.Native.Nat.{◌/◌}
 use native.Mathlib.Omega.{arith}
-use borrow.Author.Rules.{rules}
 use Rattle.brackets.proofs.Spare.{no_spare_bits, spare_last}
 use Rattle.brackets.proofs.spare_bit_set.Goals as goal
 

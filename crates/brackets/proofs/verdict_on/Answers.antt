@@ -1,7 +1,6 @@
 -- `brackets::verdict_on` meets its contract.
 use mathlib.Core.Path.{sym, ◌∙◌}
 use native.Mathlib.Omega.{arith}
-use borrow.Author.Rules.{rules}
 use Rattle.shape.proofs.Conditions.{tree_1, tree_3, tree_flaw}
 use Rattle.brackets.proofs.verdict_on.Goals as goal
 

@@ -4,7 +4,6 @@ use mathlib.Core.List.{List}
 use Prim.Native.Nat.{ℕ}
 use native.Mathlib.Omega.{arith}
 use lib.ListN.{length, replicate, length-replicate}
-use borrow.Author.Rules.{rules}
 use Rattle.suffix.specs.Tree.{tree_length, tree_bytes}
 use Rattle.suffix.proofs.Bytes.{bytes_length}
 use Rattle.ranks.specs.Ranks.{string_of}

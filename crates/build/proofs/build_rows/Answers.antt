@@ -157,8 +157,7 @@ rows-preserved c =
     (c.rows.state.rows + 1) c.settle-pair.result.matched = tables_are refl c.record_entry-in-walk.ensures.0 refl c.record_entry-in-walk.ensures.1 in
     let y : List ℕ = oriented_string c.args.wide c.args.reverse c.args.letters.now c.args.symbols.now in
     let same : length y ≡ c.args.n = string_length c.args.wide c.args.reverse c.args.letters.now c.args.symbols.now ∙ c.requires.symbols_len.0 in
-    let some : c.walk.p ≢ length y = λ q. c.if-p-n.false (q ∙ same) in
-    (
+    let some : c.walk.p ≢ length y = λ q. c.if-p-n.false (q ∙ same) in (
       law.ends_less c.walk.invariant told c.if-pair.false next_recorded some (omega (arith, c.if-v-m.true)),
       tree-stays,
     )

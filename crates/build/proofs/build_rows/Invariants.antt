@@ -1,19 +1,10 @@
 -- The loops of `build::build_rows`.
-use mathlib.Core.Path.{◌≡◌, refl, sym, ap, ◌∙◌}
-use mathlib.Core.Logic.{◌≢◌}
-use mathlib.Core.List.{List}
-use Prim.Native.Nat.{ℕ, ◌+◌, ◌-◌, ◌≤◌, ◌<◌}
-use native.Mathlib.Omega.{arith}
-use lib.ListN.{length, set, take}
-use Rattle.suffix.specs.Tree.{tree_length, tree_bytes}
-use Rattle.suffix.proofs.Rows.{tables_are}
-use Rattle.reuse.specs.Steps.{record_previous, record_next}
-use Rattle.reuse.proofs.Row.{Sizes}
+use mathlib.Core.Path.{◌≡◌}
+use Prim.Native.Nat.{◌-◌}
+use lib.ListN.{length}
 use Rattle.outcome.specs.Built.{tables_of}
 use Rattle.build.specs.States.{oriented_string}
-use Rattle.build.proofs.Strings.{string_length}
 use Rattle.build.proofs.Invariants.{raised, AtRows, AtWalk}
-use Rattle.build.proofs.Invariants as law
 use Rattle.build.proofs.build_rows.Given as goal
 
 abbrev pub invariant-walk : goal.invariant-walk

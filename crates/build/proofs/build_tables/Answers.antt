@@ -3,7 +3,6 @@ use mathlib.Core.Path.{◌≡◌, refl, sym, ap, ◌∙◌}
 use mathlib.Core.List.{List}
 use Prim.Native.Nat.{ℕ}
 use native.Mathlib.Omega.{arith}
-use borrow.Author.Rules.{rules}
 use lib.ListN.{length}
 use Rattle.suffix.specs.Rows.{Tables}
 use Rattle.ranks.specs.Ranks.{string_of}
@@ -21,7 +20,7 @@ pub returns-in-Refused : goal.returns-in-Refused
 returns-in-Refused c =
     let before : Tables = let g = c.args in tables_of g.previous.now g.next.now g.previous_match.now g.next_match.now in
     let y : List ℕ = oriented_string c.args.wide c.args.reverse c.args.letters.now c.args.symbols.now in
-    let same : (n : ℕ)  → n ≡ length (string_of c.args.wide c.args.letters.now c.args.symbols.now) → n ≡ length y = λ n e. e ∙ sym (string_length c.args.wide c.args.reverse c.args.letters.now c.args.symbols.now) in
+    let same : (n : ℕ) → n ≡ length (string_of c.args.wide c.args.letters.now c.args.symbols.now) → n ≡ length y = λ n e. e ∙ sym (string_length c.args.wide c.args.reverse c.args.letters.now c.args.symbols.now) in
     alone.refused y before c.in-Refused.refusal
     (sym (ap verdict_number c.in-Refused.is) ∙ c.tables_verdict-verdict.ensures ∙ alone.refusal_at y before (same _ c.string_length-n.ensures))
 
@@ -38,7 +37,7 @@ pub returns : goal.returns
 returns c =
     let before : Tables = let g = c.args in tables_of g.previous.now g.next.now g.previous_match.now g.next_match.now in
     let y : List ℕ = oriented_string c.args.wide c.args.reverse c.args.letters.now c.args.symbols.now in
-    let same : (n : ℕ)  → n ≡ length (string_of c.args.wide c.args.letters.now c.args.symbols.now) → n ≡ length y = λ n e. e ∙ sym (string_length c.args.wide c.args.reverse c.args.letters.now c.args.symbols.now) in
+    let same : (n : ℕ) → n ≡ length (string_of c.args.wide c.args.letters.now c.args.symbols.now) → n ≡ length y = λ n e. e ∙ sym (string_length c.args.wide c.args.reverse c.args.letters.now c.args.symbols.now) in
     let accepted : let t = before in
     tables_refusal c.string_length-n.result (length t.previous) (length t.next) (length t.previous_match) (length t.next_match) ≡ 0 = sym c.tables_verdict-verdict.ensures ∙ ap verdict_number c.in_default.is in
     let lengths : alone.Lengths c.string_length-n.result before = verdict.taken _ _ _ _ _ accepted in

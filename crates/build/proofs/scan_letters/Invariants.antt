@@ -1,14 +1,7 @@
 -- The loops of `build::scan_letters`.
-use mathlib.Core.Path.{◌≡◌, refl, ap, ◌∙◌}
-use mathlib.Core.Logic.{⊎_elim}
-use mathlib.Core.List.{List}
-use Prim.Native.Nat.{ℕ, ◌+◌, ◌-◌, ◌≤◌}
-use native.Mathlib.Omega.{arith}
-use lib.ListN.{get_or}
-use Rattle.ranks.specs.Ranks.{rank, ranks, greatest_rank, oriented, oriented_rank}
-use Rattle.ranks.proofs.Ranks.{rank_byte}
-use Rattle.build.proofs.Strings.{oriented_other, letters_length, letters_entry}
-use Rattle.build.proofs.Settling.{Scanning, scan_starts, scan_ends, scan_goes, scan_stops}
+use Prim.Native.Nat.{◌+◌, ◌-◌}
+use Rattle.ranks.specs.Ranks.{ranks, oriented}
+use Rattle.build.proofs.Settling.{Scanning}
 use Rattle.build.proofs.scan_letters.Given as goal
 
 abbrev pub invariant-loop-m : goal.invariant-loop-m

@@ -1,8 +1,8 @@
 -- `build::scan_symbols` meets its contract.
 use mathlib.Core.Path.{◌≡◌, ap, ◌∙◌}
-use mathlib.Core.Logic.{◌≢◌, ⊎_elim}
+use mathlib.Core.Logic.{◌≢◌}
 use mathlib.Core.List.{List}
-use Prim.Native.Nat.{ℕ, ◌+◌, ◌-◌}
+use Prim.Native.Nat.{ℕ, ◌+◌}
 use native.Mathlib.Omega.{arith}
 use lib.ListN.{get_or}
 use Rattle.ranks.specs.Ranks.{oriented, oriented_rank}
@@ -25,12 +25,14 @@ pub loop-m-init : goal.loop-m-init
 loop-m-init c =
     let symbols : List ℕ = c.args.symbols.now in
     let starts : let g = c.args in Scanning g.n (oriented g.reverse symbols) g.l g.r g.from g.equal g.unequal g.from g.equal = scan_starts _ _ _ _ _ _ _ (symbols_length c.args.reverse symbols ∙ c.requires.0) (omega arith) in
-    elim c.if-r-m.branch [ then-r-m+else-first-other w ↦
-    (let g = c.args in
-    let first_left : oriented_rank g.reverse (get_or symbols (g.l + g.from) 0) ≡ get_or (oriented g.reverse symbols) (g.l + g.from) 0 = symbols_entry g.reverse symbols (g.l + g.from) (omega arith) in
-    let first_right : oriented_rank g.reverse (get_or symbols (g.r + g.from) 0) ≡ get_or (oriented g.reverse symbols) (g.r + g.from) 0 = symbols_entry g.reverse symbols (g.r + g.from) (omega arith) in
-    scan_goes _ _ _ _ _ _ _ starts w.if-r-m.true _ _ first_left first_right (ap (oriented_rank g.reverse) w.if-first-other.false) w.m-is w.alike-is)
-    | else-r-m w ↦ rw (w.m-is, w.alike-is) starts ]
+    elim c.if-r-m.branch [
+      | then-r-m+else-first-other w ↦
+          (let g = c.args in
+          let first_left : oriented_rank g.reverse (get_or symbols (g.l + g.from) 0) ≡ get_or (oriented g.reverse symbols) (g.l + g.from) 0 = symbols_entry g.reverse symbols (g.l + g.from) (omega arith) in
+          let first_right : oriented_rank g.reverse (get_or symbols (g.r + g.from) 0) ≡ get_or (oriented g.reverse symbols) (g.r + g.from) 0 = symbols_entry g.reverse symbols (g.r + g.from) (omega arith) in
+          scan_goes _ _ _ _ _ _ _ starts w.if-r-m.true _ _ first_left first_right (ap (oriented_rank g.reverse) w.if-first-other.false) w.m-is w.alike-is)
+      | else-r-m w ↦ rw (w.m-is, w.alike-is) starts
+    ]
 
 pub returns-then-x-y : goal.returns-then-x-y
 returns-then-x-y c =

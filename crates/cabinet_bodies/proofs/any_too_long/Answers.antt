@@ -1,8 +1,7 @@
 -- `cabinet_bodies::any_too_long` meets its contract.
 use mathlib.Core.Path.{sym}
-use Prim.Native.Nat.{ℕ, ◌-◌, ◌≤◌, ◌<◌}
+use Prim.Native.Nat.{◌≤◌}
 use native.Mathlib.Omega.{arith}
-use lib.ListN.{length}
 use Rattle.cabinet.specs.File.{count_in}
 use Rattle.cabinet.proofs.Conditions.{not_too_long, one_too_long}
 use Rattle.cabinet.proofs.Bodies.{and_here}

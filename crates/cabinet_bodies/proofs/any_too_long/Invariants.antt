@@ -1,11 +1,7 @@
 -- The loops of `cabinet_bodies::any_too_long`.
-use mathlib.Core.Path.{sym}
 use Prim.Native.Nat.{ℕ, ◌-◌, ◌≤◌, ◌<◌}
-use native.Mathlib.Omega.{arith}
 use lib.ListN.{length}
 use Rattle.cabinet.specs.File.{count_in}
-use Rattle.cabinet.proofs.Conditions.{not_too_long, one_too_long}
-use Rattle.cabinet.proofs.Bodies.{and_here}
 use Rattle.cabinet_bodies.proofs.any_too_long.Given as goal
 
 abbrev pub invariant-loop-k : goal.invariant-loop-k

@@ -1,8 +1,6 @@
 -- `cabinet_bodies::body_bytes` meets its contract.
-use mathlib.Core.Path.{◌≡◌, ap, ◌∙◌}
-use Prim.Native.Nat.{◌-◌, ◌≤◌}
+use mathlib.Core.Path.{ap, ◌∙◌}
 use native.Mathlib.Omega.{arith}
-use lib.ListN.{length}
 use Rattle.suffix.specs.Search.{sum_below}
 use Rattle.cabinet.specs.File.{body_bytes, count_in}
 use Rattle.cabinet.proofs.Contents.{bytes_more, bytes_most}

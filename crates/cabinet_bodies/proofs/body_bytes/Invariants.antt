@@ -1,11 +1,8 @@
 -- The loops of `cabinet_bodies::body_bytes`.
-use mathlib.Core.Path.{◌≡◌, ap, ◌∙◌}
+use mathlib.Core.Path.{◌≡◌}
 use Prim.Native.Nat.{◌-◌, ◌≤◌}
-use native.Mathlib.Omega.{arith}
 use lib.ListN.{length}
-use Rattle.suffix.specs.Search.{sum_below}
 use Rattle.cabinet.specs.File.{body_bytes, count_in}
-use Rattle.cabinet.proofs.Contents.{bytes_more, bytes_most}
 use Rattle.cabinet_bodies.proofs.body_bytes.Given as goal
 
 abbrev pub invariant-loop-k : goal.invariant-loop-k

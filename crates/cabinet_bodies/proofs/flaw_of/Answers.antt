@@ -11,7 +11,7 @@ use Rattle.refusal.specs.Conditions.{flaw_number}
 use Rattle.refusal.proofs.Numbers.{accepted_of, refused_of}
 use Rattle.cabinet.specs.File.{count_in}
 use Rattle.cabinet.proofs.Contents.{bytes_more, bytes_up}
-use Rattle.cabinet.proofs.Bodies.{body_flaw, SoundTo, sound_none, sound_more, all_sound, flaw_here}
+use Rattle.cabinet.proofs.Bodies.{body_flaw, sound_none, sound_more, all_sound, flaw_here}
 use Rattle.cabinet_bodies.proofs.flaw_of.Goals as goal
 
 pub loop-k-init : goal.loop-k-init
@@ -85,8 +85,7 @@ loop-k-preserved c =
     verdict_number c.verdict_on-verdict.result ≡ flaw_number n (part trees c.loop-k.start (tree_length n)) = let start = c.loop-k.start in
     let e = c.tree_length.ensures in
     c.verdict_on-verdict.ensures
-    ∙ body_flaw trees start (letters c.loop-k.k) (start + c.tree_length.result - start) (omega arith) short (omega (arith, e, within)) (omega (arith, e)) in
-    (
+    ∙ body_flaw trees start (letters c.loop-k.k) (start + c.tree_length.result - start) (omega arith) short (omega (arith, e, within)) (omega (arith, e)) in (
       omega arith,
       sound_more trees 0 letters c.loop-k.invariant.1 (omega (arith, c.tree_length.ensures)) (sym found ∙ accepted_of c.verdict_on-verdict.result c.in-Accepted.is),
     )

@@ -5,7 +5,6 @@ use mathlib.Core.List.{List}
 use Prim.Native.Nat.{ℕ, ◌≤◌}
 use native.Mathlib.Omega.{arith}
 use lib.ListN.{length}
-use borrow.Author.Rules.{rules}
 use Rattle.cabinet.specs.File.{contents_end, count_of}
 use Rattle.cabinet.specs.Refusals.{wrong_contents}
 use Rattle.cabinet.proofs.Conditions.{right, read_11, read_5, read_flaw}

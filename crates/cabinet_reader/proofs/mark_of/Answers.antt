@@ -6,7 +6,6 @@ use Prim.Native.Nat.{ℕ, ◌≤◌}
 use native.Mathlib.Omega.{arith}
 use lib.ListN.{length, take}
 use lib.Seq.{length-take-le}
-use borrow.Author.Rules.{rules}
 use Rattle.cabinet.specs.File.{LYN1, LYN2}
 use Rattle.cabinet.proofs.Marks.{spelled, mark_met, mark_short, mark_neither}
 use Rattle.cabinet_reader.proofs.mark_of.Goals as goal

@@ -1,7 +1,6 @@
 -- `cabinet_reader::number_at` meets its contract.
 use mathlib.Core.Path.{◌∙◌}
 use native.Mathlib.Omega.{arith}
-use borrow.Author.Rules.{rules}
 use Rattle.cabinet.proofs.LittleEndian.{number_is}
 use Rattle.cabinet_reader.proofs.number_at.Goals as goal
 

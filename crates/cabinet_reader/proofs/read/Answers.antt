@@ -6,7 +6,6 @@ use Prim.Native.Nat.{ℕ, ◌+◌, ◌-◌, ◌*◌, ◌≤◌, ◌<◌}
 use native.Mathlib.Nat.{zero-add}
 use native.Mathlib.Omega.{arith}
 use lib.ListN.{length, take, drop}
-use borrow.Author.Rules.{rules}
 use Rattle.suffix.specs.Lyndon.{part}
 use Rattle.suffix.specs.Tree.{tree_length}
 use Rattle.cabinet.specs.File.{mark_of, count_of, place_of, letters_of}

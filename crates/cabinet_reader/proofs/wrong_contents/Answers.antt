@@ -1,11 +1,11 @@
 -- `cabinet_reader::wrong_contents` meets its contract.
 use mathlib.Core.Path.{◌≡◌, sym, ap}
 use mathlib.Core.Bool.{true≢false}
-use Prim.Native.Nat.{◌-◌, ◌≤◌}
+use Prim.Native.Nat.{◌≤◌}
 use native.Mathlib.Omega.{arith}
 use lib.ListN.{length, length-set}
 use Rattle.cabinet.specs.File.{contents_end, count_of}
-use Rattle.cabinet_reader.proofs.Reading.{RightTo, right_none, too_short, end_most, right_more, wrong_end, right_end, wrong_place, wrong_letters, ListedTo, listed_none, listed_more, all_listed}
+use Rattle.cabinet_reader.proofs.Reading.{right_none, too_short, end_most, right_more, wrong_end, right_end, wrong_place, wrong_letters, listed_none, listed_more, all_listed}
 use Rattle.cabinet_reader.proofs.wrong_contents.Goals as goal
 
 pub returns-then-file-end : goal.returns-then-file-end

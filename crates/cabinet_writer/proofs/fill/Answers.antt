@@ -4,7 +4,6 @@ use native.Mathlib.Omega.{arith}
 use mathlib.Core.Path.{refl, ap}
 use mathlib.Core.List.{List, ◌++◌}
 use lib.ListN.{length, drop}
-use borrow.Author.Rules.{rules}
 use Rattle.writing.proofs.Writes.{wrote_then}
 use Rattle.cabinet.specs.File.{marked_file}
 use Rattle.cabinet_writer.proofs.Filling.{mark_put, rest_put, filled}

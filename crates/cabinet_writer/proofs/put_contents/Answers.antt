@@ -1,8 +1,6 @@
 -- `cabinet_writer::put_contents` meets its contract.
-use Prim.Native.Nat.{◌-◌, ◌≤◌}
 use native.Mathlib.Omega.{arith}
-use lib.ListN.{length}
-use Rattle.cabinet_writer.proofs.Filling.{EntriesTo, entries_none, place_most, entries_more, entries_all}
+use Rattle.cabinet_writer.proofs.Filling.{entries_none, place_most, entries_more, entries_all}
 use Rattle.cabinet_writer.proofs.put_contents.Goals as goal
 
 pub loop-k-init : goal.loop-k-init

@@ -1,8 +1,7 @@
 -- The loops of `cabinet_writer::put_contents`.
 use Prim.Native.Nat.{◌-◌, ◌≤◌}
-use native.Mathlib.Omega.{arith}
 use lib.ListN.{length}
-use Rattle.cabinet_writer.proofs.Filling.{EntriesTo, entries_none, place_most, entries_more, entries_all}
+use Rattle.cabinet_writer.proofs.Filling.{EntriesTo}
 use Rattle.cabinet_writer.proofs.put_contents.Given as goal
 
 abbrev pub invariant-loop-k : goal.invariant-loop-k

@@ -1,7 +1,6 @@
 -- `cabinet_writer::put_number` meets its contract.
 use native.Mathlib.Omega.{arith}
 use lib.ListN.{length-set}
-use borrow.Author.Rules.{rules}
 use Rattle.cabinet_writer.proofs.Filling.{number_put}
 use Rattle.cabinet_writer.proofs.put_number.Goals as goal
 

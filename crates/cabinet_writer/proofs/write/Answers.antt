@@ -2,7 +2,6 @@
 use mathlib.Core.Path.{◌≡◌, sym, ◌∙◌}
 use native.Mathlib.Omega.{arith}
 use lib.ListN.{length}
-use borrow.Author.Rules.{rules}
 use Rattle.refusal.proofs.Numbers.{unless_taken, unless_refused_lem, accepted_of, refused_of}
 use Rattle.cabinet.specs.Refusals.{write_refusal}
 use Rattle.cabinet.proofs.Conditions.{takes}

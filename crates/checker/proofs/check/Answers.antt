@@ -8,7 +8,6 @@ use mathlib.Core.List.{List}
 use Prim.Native.Nat.{ℕ}
 use native.Mathlib.Omega.{arith}
 use lib.ListN.{length}
-use borrow.Author.Rules.{rules}
 use Rattle.suffix.specs.Rows.{Tables}
 use Rattle.ranks.specs.Ranks.{string_of}
 use Rattle.refusal.specs.Conditions.{table_length_off}
@@ -38,9 +37,11 @@ compared-requires c =
     let work : Tables = let g = c.args in tables_of g.previous.now g.next.now g.previous_match.now g.next_match.now in
     let y : List ℕ = string_of c.args.wide c.args.letters.now c.args.symbols.now in
     let by-string : table_length_off (length y) (length c.args.claimed.now) ≡ table_length_off c.string_length-n.result (length c.args.claimed.now) = ap (λ n. table_length_off n (length c.args.claimed.now)) (sym c.string_length-n.ensures) in
-    let same-refusal : check_refusal y c.args.claimed.now work ≡ tables_refusal_of y work = 
-        elim c.else-n-le1000000.branch [ else-n-le1000000-via-then-n-le1000000+else-claimed-n w ↦ laws.as_build y c.args.claimed.now work (by-string ∙ is_right w.if-claimed-n.false)
-        | else-n-le1000000-via-else-n-le1000000 w ↦ laws.too_long_lem y c.args.claimed.now work (omega (arith, w.if-n-le1000000.false, c.string_length-n.ensures)) ] in
+    let same-refusal : check_refusal y c.args.claimed.now work ≡ tables_refusal_of y work =
+    elim c.else-n-le1000000.branch [
+      | else-n-le1000000-via-then-n-le1000000+else-claimed-n w ↦ laws.as_build y c.args.claimed.now work (by-string ∙ is_right w.if-claimed-n.false)
+      | else-n-le1000000-via-else-n-le1000000 w ↦ laws.too_long_lem y c.args.claimed.now work (omega (arith, w.if-n-le1000000.false, c.string_length-n.ensures))
+    ] in
     let left : Tables = let u = c.build_tables-built.new in tables_of u.previous u.next u.previous_match u.next_match in
     laws.lengths y c.args.claimed.now {before = work} {after = left} c.build_tables-built.ensures same-refusal
 
@@ -49,8 +50,10 @@ returns c =
     let work : Tables = let g = c.args in tables_of g.previous.now g.next.now g.previous_match.now g.next_match.now in
     let y : List ℕ = string_of c.args.wide c.args.letters.now c.args.symbols.now in
     let by-string : table_length_off (length y) (length c.args.claimed.now) ≡ table_length_off c.string_length-n.result (length c.args.claimed.now) = ap (λ n. table_length_off n (length c.args.claimed.now)) (sym c.string_length-n.ensures) in
-    let same-refusal : check_refusal y c.args.claimed.now work ≡ tables_refusal_of y work = 
-        elim c.else-n-le1000000.branch [ else-n-le1000000-via-then-n-le1000000+else-claimed-n w ↦ laws.as_build y c.args.claimed.now work (by-string ∙ is_right w.if-claimed-n.false)
-        | else-n-le1000000-via-else-n-le1000000 w ↦ laws.too_long_lem y c.args.claimed.now work (omega (arith, w.if-n-le1000000.false, c.string_length-n.ensures)) ] in
+    let same-refusal : check_refusal y c.args.claimed.now work ≡ tables_refusal_of y work =
+    elim c.else-n-le1000000.branch [
+      | else-n-le1000000-via-then-n-le1000000+else-claimed-n w ↦ laws.as_build y c.args.claimed.now work (by-string ∙ is_right w.if-claimed-n.false)
+      | else-n-le1000000-via-else-n-le1000000 w ↦ laws.too_long_lem y c.args.claimed.now work (omega (arith, w.if-n-le1000000.false, c.string_length-n.ensures))
+    ] in
     let left : Tables = let u = c.build_tables-built.new in tables_of u.previous u.next u.previous_match u.next_match in
     laws.checked y c.args.claimed.now {before = work} {after = left} c.build_tables-built.ensures same-refusal c.compared.ensures

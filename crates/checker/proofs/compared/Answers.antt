@@ -1,7 +1,6 @@
 -- `checker::compared` meets its contract.
 use mathlib.Core.Path.{◌≡◌, sym, ap, ◌∙◌}
 use native.Mathlib.Omega.{arith}
-use borrow.Author.Rules.{rules}
 use Rattle.refusal.specs.Numbers.{verdict_number}
 use Rattle.refusal.proofs.Numbers.{positive, unless_taken, unless_refused_lem}
 use Rattle.checker.specs.Checked.{refused}

@@ -1,7 +1,7 @@
 -- `checker::first_difference` meets its contract. The invariant: what is left of the search is the whole.
-use Prim.Native.Nat.{◌-◌, ◌<◌}
+use Prim.Native.Nat.{◌<◌}
 use native.Mathlib.Omega.{arith}
-use Rattle.checker.proofs.Comparing.{Left, starts, found_here, goes_on, found_nowhere}
+use Rattle.checker.proofs.Comparing.{starts, found_here, goes_on, found_nowhere}
 use Rattle.checker.proofs.first_difference.Goals as goal
 
 pub loop-i-init : goal.loop-i-init

@@ -1,7 +1,6 @@
 -- The loops of `checker::first_difference`.
-use Prim.Native.Nat.{◌-◌, ◌<◌}
-use native.Mathlib.Omega.{arith}
-use Rattle.checker.proofs.Comparing.{Left, starts, found_here, goes_on, found_nowhere}
+use Prim.Native.Nat.{◌-◌}
+use Rattle.checker.proofs.Comparing.{Left}
 use Rattle.checker.proofs.first_difference.Given as goal
 
 abbrev pub invariant-loop-i : goal.invariant-loop-i

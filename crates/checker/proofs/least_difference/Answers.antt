@@ -1,9 +1,8 @@
 -- `checker::least_difference` meets its contract, by parts of four entries.
-use Prim.Native.Nat.{◌-◌}
 use mathlib.Core.Path.{◌≡◌}
 use native.Mathlib.Omega.{arith}
 use lib.ListN.{length}
-use Rattle.checker.proofs.Comparing.{Left, starts, part_found, part_passed, rest_found}
+use Rattle.checker.proofs.Comparing.{starts, part_found, part_passed, rest_found}
 use Rattle.checker.proofs.least_difference.Goals as goal
 
 pub loop-i-init : goal.loop-i-init

@@ -1,9 +1,7 @@
 -- The loops of `checker::least_difference`.
 use Prim.Native.Nat.{◌-◌}
-use mathlib.Core.Path.{◌≡◌}
-use native.Mathlib.Omega.{arith}
 use lib.ListN.{length}
-use Rattle.checker.proofs.Comparing.{Left, starts, part_found, part_passed, rest_found}
+use Rattle.checker.proofs.Comparing.{Left}
 use Rattle.checker.proofs.least_difference.Given as goal
 
 abbrev pub invariant-loop-i : goal.invariant-loop-i

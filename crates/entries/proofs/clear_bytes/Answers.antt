@@ -1,9 +1,7 @@
 -- `entries::clear_bytes` meets its contract.
 use mathlib.Core.Path.{◌∙◌}
-use Prim.Native.Nat.{◌-◌}
 use native.Mathlib.Omega.{arith}
-use lib.ListN.{length}
-use Rattle.entries.proofs.Clearing.{Clears, clears_none, clears_more, clears_all, cleared_all}
+use Rattle.entries.proofs.Clearing.{clears_none, clears_more, clears_all, cleared_all}
 use Rattle.entries.proofs.clear_bytes.Goals as goal
 
 pub loop-i-init : goal.loop-i-init

@@ -1,8 +1,6 @@
 -- `entries::clear_from` meets its contract.
-use Prim.Native.Nat.{◌-◌}
 use native.Mathlib.Omega.{arith}
-use lib.ListN.{length}
-use Rattle.entries.proofs.Clearing.{Clears, clears_none, clears_more, clears_all}
+use Rattle.entries.proofs.Clearing.{clears_none, clears_more, clears_all}
 use Rattle.entries.proofs.clear_from.Goals as goal
 
 pub loop-i-init : goal.loop-i-init

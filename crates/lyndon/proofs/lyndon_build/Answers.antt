@@ -1,5 +1,4 @@
 -- `lyndon::lyndon_build` meets its contract.
-use borrow.Author.Rules.{rules}
 use Rattle.lyndon.proofs.lyndon_build.Goals as goal
 
 pub shape_of-previous : goal.shape_of-previous

@@ -1,5 +1,4 @@
 -- `lyndon::lyndon_check` meets its contract.
-use borrow.Author.Rules.{rules}
 use Rattle.lyndon.proofs.lyndon_check.Goals as goal
 
 pub shape_of-previous : goal.shape_of-previous

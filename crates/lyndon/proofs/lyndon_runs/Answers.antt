@@ -1,5 +1,4 @@
 -- `lyndon::lyndon_runs` meets its contract.
-use borrow.Author.Rules.{rules}
 use Rattle.lyndon.proofs.lyndon_runs.Goals as goal
 
 pub shape_of-starts : goal.shape_of-starts

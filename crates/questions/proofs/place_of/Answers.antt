@@ -1,7 +1,6 @@
 -- `questions::place_of` meets its contract.
 use mathlib.Core.Path.{sym, ap, ◌∙◌}
 use native.Mathlib.Omega.{arith}
-use borrow.Author.Rules.{rules}
 use Rattle.refusal.specs.Numbers.{verdict_number}
 use Rattle.refusal.specs.Conditions.{question_refusal}
 use Rattle.refusal.specs.Answers.{value}

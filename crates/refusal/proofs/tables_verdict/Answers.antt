@@ -11,10 +11,12 @@ pub returns-then-previous-n : goal.returns-then-previous-n
 returns-then-previous-n c =
     says_two _ _ _ _ _ (omega arith)
     (λ t.
-    elim c.then-previous-n.branch [ then-previous-n-via-then-previous-n w ↦ omega arith
-    | then-previous-n-via-else-previous-n+then-next-n w ↦ omega arith
-    | then-previous-n-via-else-previous-n+else-next-n+then-previous_match-n w ↦ omega arith
-    | then-previous-n-via-else-previous-n+else-next-n+else-previous_match-n+then-next_match-n w ↦ omega arith ])
+    elim c.then-previous-n.branch [
+      | then-previous-n-via-then-previous-n w ↦ omega arith
+      | then-previous-n-via-else-previous-n+then-next-n w ↦ omega arith
+      | then-previous-n-via-else-previous-n+else-next-n+then-previous_match-n w ↦ omega arith
+      | then-previous-n-via-else-previous-n+else-next-n+else-previous_match-n+then-next_match-n w ↦ omega arith
+    ])
     (omega arith)
 
 pub returns : goal.returns

@@ -2,7 +2,6 @@
 use mathlib.Core.Path.{sym, ◌∙◌}
 use mathlib.Core.Bool.{true≢false}
 use native.Mathlib.Omega.{arith}
-use borrow.Author.Rules.{rules}
 use Rattle.root_runs.proofs.Judging.{judged_no, judged_yes}
 use Rattle.root_runs.proofs.accepted_left.Goals as goal
 

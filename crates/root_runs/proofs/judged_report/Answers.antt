@@ -1,7 +1,6 @@
 -- `root_runs::judged_report` meets its contract.
 use mathlib.Core.Path.{◌∙◌}
 use native.Mathlib.Omega.{arith}
-use borrow.Author.Rules.{rules}
 use Rattle.root_runs.proofs.Judging.{reports_first, reports_second, reports_none}
 use Rattle.root_runs.proofs.judged_report.Goals as goal
 

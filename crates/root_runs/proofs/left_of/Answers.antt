@@ -1,8 +1,6 @@
 -- `root_runs::left_of` meets its contract.
-use Prim.Native.Nat.{◌-◌}
 use native.Mathlib.Omega.{arith}
-use Rattle.ranks.specs.Ranks.{string_of}
-use Rattle.root_runs.proofs.Scanning.{Agreeing, agree_none, agree_more, at_most, at_difference}
+use Rattle.root_runs.proofs.Scanning.{agree_none, agree_more, at_most, at_difference}
 use Rattle.root_runs.proofs.left_of.Goals as goal
 
 pub most_left-most-requires : goal.most_left-most-requires

@@ -1,8 +1,7 @@
 -- The loops of `root_runs::left_of`.
 use Prim.Native.Nat.{◌-◌}
-use native.Mathlib.Omega.{arith}
 use Rattle.ranks.specs.Ranks.{string_of}
-use Rattle.root_runs.proofs.Scanning.{Agreeing, agree_none, agree_more, at_most, at_difference}
+use Rattle.root_runs.proofs.Scanning.{Agreeing}
 use Rattle.root_runs.proofs.left_of.Given as goal
 
 abbrev pub invariant-loop-x : goal.invariant-loop-x

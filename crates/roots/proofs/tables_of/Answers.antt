@@ -1,7 +1,6 @@
 -- `roots::tables_of` meets its contract.
 use mathlib.Core.Path.{sym, ◌∙◌}
 use native.Mathlib.Omega.{arith}
-use borrow.Author.Rules.{rules}
 use Rattle.ranks.specs.Ranks.{string_of, greatest_rank}
 use Rattle.outcome.specs.Built.{tables_of}
 use Rattle.ranks.proofs.Ranks.{oriented_length}

@@ -4,7 +4,7 @@ use Prim.Native.Nat.{ℕ, ◌<◌}
 use native.Mathlib.Omega.{arith}
 use Rattle.repeats.specs.Refusals.{Lists, lists}
 use Rattle.run_list.specs.Entries.{run_of, Has}
-use Rattle.run_list.proofs.Inserting.{Placing, placing_none, placing_has, placing_more, placing_done, passes_some}
+use Rattle.run_list.proofs.Inserting.{placing_none, placing_has, placing_more, placing_done, passes_some}
 use Rattle.run_list.proofs.place.Goals as goal
 
 -- ---- the way back: the test, the head of the loop, the start

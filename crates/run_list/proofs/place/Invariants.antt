@@ -1,10 +1,7 @@
 -- The loops of `run_list::place`.
-use mathlib.Core.Path.{◌≡◌, ◌∙◌}
-use Prim.Native.Nat.{ℕ, ◌<◌}
-use native.Mathlib.Omega.{arith}
-use Rattle.repeats.specs.Refusals.{Lists, lists}
-use Rattle.run_list.specs.Entries.{run_of, Has}
-use Rattle.run_list.proofs.Inserting.{Placing, placing_none, placing_has, placing_more, placing_done, passes_some}
+use Rattle.repeats.specs.Refusals.{lists}
+use Rattle.run_list.specs.Entries.{run_of}
+use Rattle.run_list.proofs.Inserting.{Placing}
 use Rattle.run_list.proofs.place.Given as goal
 
 abbrev pub invariant-loop-starts : goal.invariant-loop-starts

@@ -2,7 +2,6 @@
 use mathlib.Core.Path.{sym}
 use native.Mathlib.Omega.{arith}
 use lib.Seq.{length-take-le}
-use borrow.Author.Rules.{rules}
 use Rattle.runs.proofs.Writing.{first_cleared}
 use Rattle.runs.proofs.clear_first.Goals as goal
 

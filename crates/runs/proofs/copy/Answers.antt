@@ -1,8 +1,7 @@
 -- `runs::copy` meets its contract.
 use mathlib.Core.Path.{◌∙◌}
-use Prim.Native.Nat.{◌-◌, ◌≤◌}
 use native.Mathlib.Omega.{arith}
-use Rattle.runs.proofs.Writing.{Copied, copied_none, copied_more, copied_all}
+use Rattle.runs.proofs.Writing.{copied_none, copied_more, copied_all}
 use Rattle.runs.proofs.copy.Goals as goal
 
 pub loop-k-init : goal.loop-k-init

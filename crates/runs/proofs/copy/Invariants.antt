@@ -1,8 +1,6 @@
 -- The loops of `runs::copy`.
-use mathlib.Core.Path.{◌∙◌}
 use Prim.Native.Nat.{◌-◌, ◌≤◌}
-use native.Mathlib.Omega.{arith}
-use Rattle.runs.proofs.Writing.{Copied, copied_none, copied_more, copied_all}
+use Rattle.runs.proofs.Writing.{Copied}
 use Rattle.runs.proofs.copy.Given as goal
 
 abbrev pub invariant-loop-k : goal.invariant-loop-k

@@ -1,6 +1,5 @@
 -- `search::backward` meets its contract.
 use mathlib.Core.Path.{sym, ◌∙◌}
-use borrow.Author.Rules.{rules}
 use lib.ListN.{length}
 use Rattle.search.proofs.Within.{within, backward_walks, backward_none}
 use Rattle.search.proofs.backward.Goals as goal

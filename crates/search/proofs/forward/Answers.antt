@@ -1,6 +1,5 @@
 -- `search::forward` meets its contract.
 use mathlib.Core.Path.{sym, ◌∙◌}
-use borrow.Author.Rules.{rules}
 use lib.ListN.{length}
 use Rattle.search.proofs.Within.{within, forward_walks, forward_none}
 use Rattle.search.proofs.forward.Goals as goal

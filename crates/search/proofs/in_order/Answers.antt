@@ -1,7 +1,6 @@
 -- `search::in_order` meets its contract.
 use Prim.Native.Nat.{◌*◌}
 use native.Mathlib.Omega.{arith}
-use borrow.Author.Rules.{rules}
 use borrow.Author.Tests.{lt-leb, le-leb}
 use Rattle.search.proofs.in_order.Goals as goal
 

@@ -1,9 +1,8 @@
 -- `small_trees::change` meets its contract.
 use mathlib.Core.Path.{◌∙◌}
-use Prim.Native.Nat.{◌-◌}
 use native.Mathlib.Omega.{arith}
-use lib.ListN.{length, get_or, length-set}
-use Rattle.small_trees.proofs.Changing.{ChangedTo, change_start, old_byte, new_byte, change_byte, change_end}
+use lib.ListN.{get_or, length-set}
+use Rattle.small_trees.proofs.Changing.{change_start, old_byte, new_byte, change_byte, change_end}
 use Rattle.small_trees.proofs.change.Goals as goal
 
 pub loop-j-init : goal.loop-j-init

@@ -4,7 +4,6 @@ use mathlib.Core.Bool.{true, cond}
 use mathlib.Core.List.{List}
 use Prim.Native.Nat.{ℕ, suc, ◌+◌, ◌-◌, ◌*◌, ◌≤◌, ◌<◌}
 use native.Mathlib.Omega.{arith}
-use borrow.Author.Rules.{rules}
 use lib.ListN.{length}
 use Rattle.refusal.specs.Conditions.{bit_of}
 use Rattle.shape.proofs.Conditions.{tree_flaw}
@@ -12,7 +11,6 @@ use Rattle.shape.proofs.Laws.{whole}
 use Rattle.small_trees.specs.Answers.{next, last}
 use Rattle.all_trees.specs.Claims.{IsBalanced}
 use Rattle.small_trees.proofs.Turning.{Passed, pass_start, pass_closing, pass_opening, turned_next, turned_written, last_none, last_kept}
-use Rattle.small_trees.proofs.go_on.Invariants.{Searching}
 use Rattle.small_trees.proofs.go_on.Goals as goal
 
 pub loop-k-init : goal.loop-k-init

@@ -4,7 +4,6 @@ use mathlib.Core.Logic.{◌≢◌}
 use mathlib.Core.Bool.{false}
 use Prim.Native.Nat.{ℕ}
 use native.Mathlib.Omega.{arith}
-use borrow.Author.Rules.{rules}
 use Rattle.refusal.specs.Numbers.{verdict_number}
 use Rattle.refusal.proofs.Numbers.{positive, accepted_of}
 use Rattle.small_trees.specs.Answers.{size_outside, next_refusal, refused, NextGiven}
@@ -13,7 +12,7 @@ use Rattle.small_trees.proofs.next.Goals as goal
 
 pub returns-then-is_outside : goal.returns-then-is_outside
 returns-then-is_outside c =
-    let told : (number : ℕ)  → next_refusal c.args.size c.args.tree.now ≢ 0 → number ≡ next_refusal c.args.size c.args.tree.now
+    let told : (number : ℕ) → next_refusal c.args.size c.args.tree.now ≢ 0 → number ≡ next_refusal c.args.size c.args.tree.now
     → NextGiven c.args.size c.args.tree.now c.args.tree.now (refused number) = λ number z e. record { answers = ap refused e ∙ next_refused c.args.size c.args.tree.now z; leaves = next_left c.args.size c.args.tree.now z } in
     let e = next_14 c.args.size c.args.tree.now (sym c.is_outside.ensures ∙ c.if-is_outside.true) in
     told _ (λ z. omega arith) (sym e)
@@ -26,7 +25,7 @@ go_on-requires c =
 
 pub returns-in-Refused : goal.returns-in-Refused
 returns-in-Refused c =
-    let told : (number : ℕ)  → next_refusal c.args.size c.args.tree.now ≢ 0 → number ≡ next_refusal c.args.size c.args.tree.now
+    let told : (number : ℕ) → next_refusal c.args.size c.args.tree.now ≢ 0 → number ≡ next_refusal c.args.size c.args.tree.now
     → NextGiven c.args.size c.args.tree.now c.args.tree.now (refused number) = λ number z e. record { answers = ap refused e ∙ next_refused c.args.size c.args.tree.now z; leaves = next_left c.args.size c.args.tree.now z } in
     let size_in : size_outside c.args.size ≡ false = sym c.is_outside.ensures ∙ c.if-is_outside.false in
     let found : verdict_number c.verdict_on-verdict.result ≡ next_refusal c.args.size c.args.tree.now = c.verdict_on-verdict.ensures ∙ sym (next_tree_lem c.args.size c.args.tree.now size_in) in

@@ -1,5 +1,4 @@
 -- `tables_text::build_all` meets its contract: the build is not refused, and its counts are small.
-use borrow.Author.Rules.{rules}
 use Rattle.outcome.specs.Built.{Lent, lent}
 use Rattle.tables_text.proofs.Builds.{few_compared, whole_build}
 use Rattle.tables_text.proofs.build_all.Goals as goal

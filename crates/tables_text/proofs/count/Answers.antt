@@ -2,7 +2,6 @@
 use mathlib.Core.Path.{ap}
 use Prim.Native.Nat.{ℕ}
 use native.Mathlib.Omega.{arith}
-use borrow.Author.Rules.{rules}
 use Rattle.outcome.specs.declared.Built.{Built}
 use Rattle.outcome.specs.Built.{figures_of}
 use Rattle.tables_text.specs.Buffers.{count_of}

@@ -1,5 +1,4 @@
 -- `tables_text::put_field` meets its contract.
-use borrow.Author.Rules.{rules}
 use Rattle.tables_text.specs.Text.{field}
 use Rattle.writing.proofs.Writes.{put_then}
 use Rattle.tables_text.proofs.put_field.Goals as goal

@@ -1,7 +1,6 @@
 -- `tables_text::put_figure` meets its contract.
 use Rattle.tables_text.specs.Text.{figure}
 use Rattle.writing.proofs.Writes.{put_then}
-use borrow.Author.Rules.{rules}
 use Rattle.tables_text.proofs.put_figure.Goals as goal
 
 pub returns : goal.returns

@@ -1,7 +1,6 @@
 -- `tables_text::put_head` meets its contract: five puts, one behind the other.
 use Rattle.tables_text.specs.Text.{head_text}
 use Rattle.writing.proofs.Writes.{put_then}
-use borrow.Author.Rules.{rules}
 use Rattle.tables_text.proofs.put_head.Goals as goal
 
 pub returns : goal.returns

@@ -1,5 +1,4 @@
 -- `tables_text::put_line` meets its contract: four puts, one behind the other.
-use borrow.Author.Rules.{rules}
 use Rattle.tables_text.specs.Text.{line_text}
 use Rattle.writing.proofs.Writes.{put_then}
 use Rattle.tables_text.proofs.put_line.Goals as goal

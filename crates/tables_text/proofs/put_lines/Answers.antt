@@ -1,7 +1,7 @@
 -- `tables_text::put_lines` meets its contract. The loop's invariant: the lines of the first k positions are put, and end is behind them.
 use mathlib.Core.Path.{◌≡◌, ap, ◌∙◌}
 use mathlib.Core.List.{List, ◌++◌}
-use Prim.Native.Nat.{ℕ, ◌+◌, ◌-◌, ◌≤◌, ◌<◌}
+use Prim.Native.Nat.{ℕ, ◌+◌, ◌<◌}
 use native.Mathlib.Omega.{arith}
 use lib.ListN.{length}
 use Rattle.suffix.specs.Nearest.{previous, next}
@@ -9,7 +9,6 @@ use Rattle.suffix.proofs.Nearest.{next_at_lem}
 use Rattle.ranks.specs.Ranks.{ranks}
 use Rattle.ranks.proofs.Ranks.{ranks_length}
 use Rattle.tables_text.specs.Text.{lines, line_text}
-use Rattle.writing.specs.Writing.{Put}
 use Rattle.writing.proofs.Writes.{put_none, put_length, put_then}
 use Rattle.tables_text.proofs.Sizes.{lines_more}
 use Rattle.tables_text.proofs.put_lines.Goals as goal

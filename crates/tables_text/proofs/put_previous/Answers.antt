@@ -1,6 +1,5 @@
 -- `tables_text::put_previous` meets its contract.
 use native.Mathlib.Omega.{arith}
-use borrow.Author.Rules.{rules}
 use Rattle.tables_text.proofs.Sizes.{dash, no_dash}
 use Rattle.tables_text.proofs.put_previous.Goals as goal
 

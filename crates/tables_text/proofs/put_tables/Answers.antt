@@ -1,6 +1,5 @@
 -- `tables_text::put_tables` meets its contract: the first line, and the lines of the positions.
 use Rattle.tables_text.proofs.Builds.{tables_put}
-use borrow.Author.Rules.{rules}
 use Rattle.tables_text.proofs.put_tables.Goals as goal
 
 pub returns : goal.returns

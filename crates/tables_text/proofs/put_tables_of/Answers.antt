@@ -4,7 +4,6 @@ use lib.Seq.{length-take-le}
 use lib.ListN.{length, take}
 use mathlib.Core.Path.{◌≡◌, sym, ◌∙◌}
 use Prim.Native.Nat.{ℕ}
-use borrow.Author.Rules.{rules}
 use Rattle.tables_text.proofs.put_tables_of.Goals as goal
 
 pub slice_bounds-put_tables-end : goal.slice_bounds-put_tables-end

@@ -1,6 +1,5 @@
 -- `tables_text::put_tree` meets its contract.
 use native.Mathlib.Omega.{arith}
-use borrow.Author.Rules.{rules}
 use Rattle.tables_text.proofs.Sizes.{tree_none, tree_some}
 use Rattle.tables_text.proofs.put_tree.Goals as goal
 

@@ -1,7 +1,6 @@
 -- `tables_text::render` meets its contract: the buffer has room for the whole text.
 use native.Mathlib.Omega.{arith}
 use Rattle.tables_text.proofs.Builds.{rendered_long, rendered_tables}
-use borrow.Author.Rules.{rules}
 use Rattle.tables_text.proofs.render.Goals as goal
 
 pub returns-then-letters-gt2048 : goal.returns-then-letters-gt2048

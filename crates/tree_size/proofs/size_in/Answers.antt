@@ -22,5 +22,7 @@ returns-then-input-eq10-2 c =
 pub returns : goal.returns
 returns c =
     let none = size_none c.args.input.now c.if-n-eq1.false c.if-n-eq2.false in
-    elim c.else-n-eq3.branch [ else-n-eq3-via-then-n-eq3+else-input-eq10-2 w ↦ sym (none (λ z. w.if-input-eq10-2.false))
-    | else-n-eq3-via-else-n-eq3 w ↦ sym (none (λ z. absurd (w.if-n-eq3.false z))) ]
+    elim c.else-n-eq3.branch [
+      | else-n-eq3-via-then-n-eq3+else-input-eq10-2 w ↦ sym (none (λ z. w.if-input-eq10-2.false))
+      | else-n-eq3-via-else-n-eq3 w ↦ sym (none (λ z. absurd (w.if-n-eq3.false z)))
+    ]

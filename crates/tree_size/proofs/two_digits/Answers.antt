@@ -22,6 +22,8 @@ returns-then-is_digit-2 c =
 pub returns : goal.returns
 returns c =
     let a = c.args in
-    elim c.else-is_digit.branch [ else-is_digit-via-then-is_digit+else-is_digit-2 w ↦
-    sym (two_none_second a.a a.b (sym w.is_digit-then-is_digit.ensures ∙ w.if-is_digit-2.false))
-    | else-is_digit-via-else-is_digit w ↦ sym (two_none_first a.a a.b (sym c.is_digit.ensures ∙ w.if-is_digit.false)) ]
+    elim c.else-is_digit.branch [
+      | else-is_digit-via-then-is_digit+else-is_digit-2 w ↦
+          sym (two_none_second a.a a.b (sym w.is_digit-then-is_digit.ensures ∙ w.if-is_digit-2.false))
+      | else-is_digit-via-else-is_digit w ↦ sym (two_none_first a.a a.b (sym c.is_digit.ensures ∙ w.if-is_digit.false))
+    ]

@@ -1,13 +1,13 @@
 -- `tree_string::fill` meets its contract.
 use mathlib.Core.Path.{refl, ap, ◌∙◌}
 use mathlib.Core.Bool.{cond}
-use Prim.Native.Nat.{◌+◌, ◌-◌, ◌*◌, ◌/◌, ◌%◌, ◌≤◌}
+use Prim.Native.Nat.{◌+◌, ◌-◌, ◌*◌, ◌/◌}
 use native.Mathlib.Omega.{arith}
 use Rattle.refusal.specs.Conditions.{bit_of}
 use Rattle.excess.proofs.Bits.{read_bit}
 use Rattle.shape.proofs.Laws.{Whole, whole}
 use Rattle.tree_string.specs.Steps.{numbered_of}
-use Rattle.tree_string.proofs.Writing.{Writing, writing_at, writing_start, Next, next_numberable, next_written, all_numbered, none_left}
+use Rattle.tree_string.proofs.Writing.{writing_at, writing_start, Next, next_numberable, next_written, all_numbered, none_left}
 use Rattle.tree_string.proofs.fill.Goals as goal
 
 pub loop-m-init : goal.loop-m-init

@@ -1,13 +1,8 @@
 -- The loops of `tree_string::fill`.
-use mathlib.Core.Path.{refl, ap, ◌∙◌}
-use mathlib.Core.Bool.{cond}
-use Prim.Native.Nat.{◌+◌, ◌-◌, ◌*◌, ◌/◌, ◌%◌, ◌≤◌}
-use native.Mathlib.Omega.{arith}
+use Prim.Native.Nat.{◌+◌, ◌*◌, ◌/◌, ◌%◌, ◌≤◌}
 use Rattle.refusal.specs.Conditions.{bit_of}
-use Rattle.excess.proofs.Bits.{read_bit}
-use Rattle.shape.proofs.Laws.{Whole, whole}
 use Rattle.tree_string.specs.Steps.{numbered_of}
-use Rattle.tree_string.proofs.Writing.{Writing, writing_at, writing_start, Next, next_numberable, next_written, all_numbered, none_left}
+use Rattle.tree_string.proofs.Writing.{Writing}
 use Rattle.tree_string.proofs.fill.Given as goal
 
 abbrev pub invariant-loop-m : goal.invariant-loop-m

@@ -2,7 +2,6 @@
 use mathlib.Core.Path.{◌≡◌}
 use Prim.Native.Nat.{ℕ, ◌+◌, ◌-◌}
 use native.Mathlib.Omega.{arith}
-use borrow.Author.Rules.{rules}
 use lib.ListN.{get_or, set, length-set}
 use Rattle.tree_string.specs.Steps.{Numbered, numbered_of, bracket_numbered}
 use Rattle.tree_string.proofs.number_bracket.Goals as goal

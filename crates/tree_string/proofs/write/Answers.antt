@@ -1,7 +1,6 @@
 -- `tree_string::write` meets its contract: a refusal leaves the buffer as it was, else it is what `fill` leaves.
 use mathlib.Core.Path.{◌≡◌, sym, ◌∙◌}
 use native.Mathlib.Omega.{arith}
-use borrow.Author.Rules.{rules}
 use lib.ListN.{length}
 use Rattle.refusal.specs.Numbers.{verdict_number}
 use Rattle.refusal.proofs.Numbers.{accepted_of, refused_of}

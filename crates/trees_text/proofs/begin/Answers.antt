@@ -1,6 +1,5 @@
 -- `trees_text::begin` meets its contract.
 use native.Mathlib.Omega.{arith}
-use borrow.Author.Rules.{rules}
 use Rattle.refusal.proofs.Numbers.{accepted_of, refused_of}
 use Rattle.trees_text.proofs.Beginning.{begun_none, begun_first, first_taken}
 use Rattle.trees_text.proofs.begin.Goals as goal

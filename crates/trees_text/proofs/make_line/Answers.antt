@@ -4,7 +4,6 @@ use Prim.Native.Nat.{◌≤◌}
 use native.Mathlib.Omega.{arith}
 use lib.ListN.{length, take}
 use lib.Seq.{length-take-le}
-use borrow.Author.Rules.{rules}
 use Rattle.small_trees.proofs.Answering.{inside, next_inside, next_answered, next_written}
 use Rattle.all_trees.specs.Trees.{is_last}
 use Rattle.trees_text.specs.Lines.{stops}

@@ -1,10 +1,10 @@
 -- `trees_text::print` meets its contract: a size of two digits has a tree of at most 25 bytes.
-use mathlib.Core.Path.{◌≡◌, sym, ap, ◌∙◌}
+use mathlib.Core.Path.{sym, ◌∙◌}
 use Prim.Native.Nat.{◌≤◌}
 use native.Mathlib.Omega.{arith}
-use lib.ListN.{length, take}
+use lib.ListN.{length}
 use lib.Seq.{length-take-le}
-use Rattle.trees_text.specs.Text.{size_text, program_text}
+use Rattle.trees_text.specs.Text.{program_text}
 use Rattle.tree_size.proofs.Input.{size_most}
 use Rattle.trees_text.proofs.print.Goals as goal
 

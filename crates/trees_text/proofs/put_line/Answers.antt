@@ -1,5 +1,4 @@
 -- `trees_text::put_line` meets its contract.
-use borrow.Author.Rules.{rules}
 use Rattle.writing.proofs.Writes.{put_then}
 use Rattle.trees_text.specs.Text.{line_of}
 use Rattle.trees_text.proofs.put_line.Goals as goal

@@ -1,9 +1,7 @@
 -- `trees_text::put_symbols` meets its contract. The loop's invariant: the first k symbols are put, and end is behind them.
 use mathlib.Core.Path.{◌≡◌, refl}
-use Prim.Native.Nat.{◌-◌, ◌≤◌}
 use native.Mathlib.Omega.{arith}
 use lib.ListN.{length}
-use Rattle.writing.specs.Writing.{Put}
 use Rattle.writing.proofs.Writes.{put_none, put_then}
 use Rattle.trees_text.specs.Text.{symbols_text}
 use Rattle.trees_text.proofs.Lines.{symbols_more}

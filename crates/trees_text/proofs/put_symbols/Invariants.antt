@@ -1,12 +1,9 @@
 -- The loops of `trees_text::put_symbols`.
-use mathlib.Core.Path.{◌≡◌, refl}
+use mathlib.Core.Path.{◌≡◌}
 use Prim.Native.Nat.{◌-◌, ◌≤◌}
-use native.Mathlib.Omega.{arith}
 use lib.ListN.{length}
 use Rattle.writing.specs.Writing.{Put}
-use Rattle.writing.proofs.Writes.{put_none, put_then}
 use Rattle.trees_text.specs.Text.{symbols_text}
-use Rattle.trees_text.proofs.Lines.{symbols_more}
 use Rattle.trees_text.proofs.put_symbols.Given as goal
 
 abbrev pub invariant-loop-k : goal.invariant-loop-k

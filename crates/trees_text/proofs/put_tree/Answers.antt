@@ -2,7 +2,6 @@
 use mathlib.Core.Path.{sym, ◌∙◌}
 use native.Mathlib.Omega.{arith}
 use lib.ListN.{length}
-use borrow.Author.Rules.{rules}
 use Rattle.tree_string.proofs.Answering.{string_tree, buffer_written}
 use Rattle.small_trees.proofs.Answering.{inside, next_inside, next_tree_lem}
 use Rattle.trees_text.specs.Text.{line_text}

@@ -1,10 +1,9 @@
 -- `word::longest_lyndon_prefix` meets its contract.
 use mathlib.Core.List.{List}
-use Prim.Native.Nat.{ℕ, ◌-◌, ◌≤◌}
+use Prim.Native.Nat.{ℕ}
 use native.Mathlib.Omega.{arith}
-use Rattle.suffix.proofs.Order.{extended}
 use Rattle.ranks.specs.Ranks.{string_of}
-use Rattle.word.proofs.Duval.{Repeats, repeats_one, letter_equal, letter_greater, letter_smaller, string_ends}
+use Rattle.word.proofs.Duval.{repeats_one, letter_equal, letter_greater, letter_smaller, string_ends}
 use Rattle.suffix.proofs.Tests.{tests}
 use Rattle.word.proofs.longest_lyndon_prefix.Goals as goal
 use Rattle.word.proofs.longest_lyndon_prefix.Goals.{then-same_at, else-same_at+else-smaller_at}
@@ -29,8 +28,10 @@ loop-j-preserved c =
     let same = c.same_at.ensures in
     let r = c.loop-j.invariant.1 in (
       omega arith,
-      elim c.if-same_at.branch [ then-same_at w ↦ rw w.k-is (letter_equal y r (omega arith) (omega (tests, rw same at w.if-same_at.true)))
-      | else-same_at+else-smaller_at w ↦ rw w.k-is (letter_greater y r (omega arith) (omega (tests, rw same at w.if-same_at.false, rw w.smaller_at.ensures at w.if-smaller_at.false))) ],
+      elim c.if-same_at.branch [
+        | then-same_at w ↦ rw w.k-is (letter_equal y r (omega arith) (omega (tests, rw same at w.if-same_at.true)))
+        | else-same_at+else-smaller_at w ↦ rw w.k-is (letter_greater y r (omega arith) (omega (tests, rw same at w.if-same_at.false, rw w.smaller_at.ensures at w.if-smaller_at.false)))
+      ],
     )
 
 pub returns : goal.returns

@@ -1,13 +1,8 @@
 -- The loops of `writing::put`.
-use mathlib.Core.Path.{◌≡◌, refl}
-use mathlib.Core.List.{List, [], ◌∷◌}
-use Prim.Native.Nat.{ℕ, ◌+◌, ◌-◌, ◌≤◌, ◌<◌}
-use native.Mathlib.Numerals.{add-one}
-use native.Mathlib.Omega.{arith}
-use lib.ListN.{length, get_or, take}
-use lib.Seq.{take-length, take-suc}
+use mathlib.Core.Path.{◌≡◌}
+use Prim.Native.Nat.{◌-◌, ◌≤◌}
+use lib.ListN.{length, take}
 use Rattle.writing.specs.Writing.{Put}
-use Rattle.writing.proofs.Writes.{put_none, put_length, put_then}
 use Rattle.writing.proofs.put.Given as goal
 
 abbrev pub invariant-loop-k : goal.invariant-loop-k

@@ -1,14 +1,9 @@
 -- The loops of `writing::put_hexes`.
-use mathlib.Core.Path.{◌≡◌, refl}
-use mathlib.Core.List.{List}
-use Prim.Native.Nat.{ℕ, ◌+◌, ◌-◌, ◌≤◌}
-use native.Mathlib.Omega.{arith}
-use lib.ListN.{length, get_or}
-use Rattle.io.specs.Digits.{last_digits}
+use mathlib.Core.Path.{◌≡◌}
+use Prim.Native.Nat.{◌-◌, ◌≤◌}
+use lib.ListN.{length}
 use Rattle.writing.specs.Writing.{Put}
 use Rattle.writing.specs.Text.{hexes}
-use Rattle.writing.proofs.Writes.{put_none, put_length, put_then}
-use Rattle.writing.proofs.Hexes.{hexes_more}
 use Rattle.writing.proofs.put_hexes.Given as goal
 
 abbrev pub invariant-loop-k : goal.invariant-loop-k

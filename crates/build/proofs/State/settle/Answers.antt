@@ -1,8 +1,7 @@
 -- `build::State::settle` meets its contract: each way out is a clause of steps 1 and 2.
 use mathlib.Core.Path.{◌≡◌, refl, sym, ap, ◌∙◌}
-use mathlib.Core.Logic.{⊎_elim}
 use mathlib.Core.List.{[]}
-use Prim.Native.Nat.{ℕ, ◌+◌, ◌≤◌}
+use Prim.Native.Nat.{◌+◌, ◌≤◌}
 use native.Mathlib.Omega.{arith}
 use Rattle.reuse.specs.Steps.{scanned, scan_from}
 use Rattle.reuse.proofs.Settle.{reuse_copy, reuse_scan}
@@ -96,13 +95,17 @@ returns c =
     let safe : Safe g.n (progress_of g.self) g.l g.r g.m = c.requires.safe c.if-known.false in
     let y = oriented_string g.wide g.reverse g.letters.now g.symbols.now in
     let from_is : settled_from g.known y (progress_of g.self) (tables_of [] g.next.now g.previous_match.now g.next_match.now) g.l g.r g.m ≡ scan_from y (progress_of g.self) g.l g.r c.if-r-m.from =
-        elim c.if-r-m.branch [ then-r-m w ↦
-        rw w.from-is
-            (elim w.if-read-b.branch [ then-read-b+else-r-v x ↦
-            by_next _ _ _ _ _ _ _ c.if-known.false w.if-r-m.true _ _ w.read.ensures.0 x.if-read-b.true x.read-v.ensures.0 ∙ reuse_scan _ _ _ _ _ _ (omega arith)
+    elim c.if-r-m.branch [
+      | then-r-m w ↦
+          rw w.from-is
+          (elim w.if-read-b.branch [
+            | then-read-b+else-r-v x ↦
+                by_next _ _ _ _ _ _ _ c.if-known.false w.if-r-m.true _ _ w.read.ensures.0 x.if-read-b.true x.read-v.ensures.0 ∙ reuse_scan _ _ _ _ _ _ (omega arith)
             | else-read-b+else-r-w x ↦
-            by_previous _ _ _ _ _ _ _ c.if-known.false w.if-r-m.true _ _ w.read.ensures.0 x.if-read-b.false x.read-w.ensures.0 ∙ reuse_scan _ _ _ _ _ _ (omega arith) ])
-        | else-r-m w ↦ rw w.from-is (scans _ _ _ _ _ _ _ c.if-known.false w.if-r-m.false) ] in
+                by_previous _ _ _ _ _ _ _ c.if-known.false w.if-r-m.true _ _ w.read.ensures.0 x.if-read-b.false x.read-w.ensures.0 ∙ reuse_scan _ _ _ _ _ _ (omega arith)
+          ])
+      | else-r-m w ↦ rw w.from-is (scans _ _ _ _ _ _ _ c.if-known.false w.if-r-m.false)
+    ] in
     record {
       result_value = c.stop.ensures.result_value ∙ ap (scanned g.l g.r) c.scan-report.ensures.reports ∙ sym from_is;
       rows_value = c.stop.ensures.rows_value;

@@ -1,5 +1,4 @@
 -- `lyndon::symbols::lyndon_build32` meets its contract.
-use borrow.Author.Rules.{rules}
 use Rattle.lyndon.proofs.symbols.lyndon_build32.Goals as goal
 
 pub shape_of-previous : goal.shape_of-previous

@@ -1,5 +1,4 @@
 -- `lyndon::symbols::lyndon_runs32` meets its contract.
-use borrow.Author.Rules.{rules}
 use Rattle.lyndon.proofs.symbols.lyndon_runs32.Goals as goal
 
 pub shape_of-starts : goal.shape_of-starts

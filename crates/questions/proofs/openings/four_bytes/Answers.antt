@@ -3,7 +3,6 @@ use mathlib.Core.Path.{◌≡◌}
 use mathlib.Core.List.{List}
 use Prim.Native.Nat.{ℕ, ◌+◌, ◌*◌, ◌<◌}
 use native.Mathlib.Omega.{arith}
-use borrow.Author.Rules.{rules}
 use lib.ListN.{get_or}
 use Rattle.questions.proofs.Counting.{CountedFrom, counted_byte, counted_joined}
 use Rattle.questions.proofs.openings.four_bytes.Goals as goal
@@ -45,8 +44,7 @@ pub returns : goal.returns
 returns c =
     let small : (k : ℕ) → get_or c.args.tree.now k 0 < 256 = λ k. omega (arith, c.shared_slice_known-1.given k) in
     let two_small : c.joined-high.result < 65536 = omega (arith, c.joined-high.ensures, small (c.args.j + 3), small (c.args.j + 2)) in
-    let three-small : c.joined.result < 16777216 = omega (arith, c.joined.ensures, two_small, small (c.args.j + 1)) in
-    (
+    let three-small : c.joined.result < 16777216 = omega (arith, c.joined.ensures, two_small, small (c.args.j + 1)) in (
       omega (arith, c.joined-2.ensures, three-small, small c.args.j),
       rw (c.joined-2.ensures, c.joined.ensures, c.joined-high.ensures) (four c.args.tree.now c.args.j small),
     )

@@ -1,10 +1,8 @@
 -- `questions::openings::pass_eights` meets its contract.
-use Prim.Native.Nat.{◌-◌}
 use native.Mathlib.Omega.{arith}
-use lib.ListN.{length}
 use Rattle.refusal.specs.Conditions.{bit_of}
 use Rattle.shape.proofs.Heights.{opened_none}
-use Rattle.questions.proofs.Counting.{Passing, passed_bytes}
+use Rattle.questions.proofs.Counting.{passed_bytes}
 use Rattle.questions.proofs.openings.pass_eights.Goals as goal
 
 pub loop-byte-init : goal.loop-byte-init

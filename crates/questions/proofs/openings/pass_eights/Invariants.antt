@@ -1,10 +1,7 @@
 -- The loops of `questions::pass_eights`.
 use Prim.Native.Nat.{◌-◌}
-use native.Mathlib.Omega.{arith}
 use lib.ListN.{length}
-use Rattle.refusal.specs.Conditions.{bit_of}
-use Rattle.shape.proofs.Heights.{opened_none}
-use Rattle.questions.proofs.Counting.{Passing, passed_bytes}
+use Rattle.questions.proofs.Counting.{Passing}
 use Rattle.questions.proofs.openings.pass_eights.Given as goal
 
 abbrev pub invariant-loop-byte : goal.invariant-loop-byte

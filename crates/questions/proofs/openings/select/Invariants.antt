@@ -1,14 +1,8 @@
 -- The loops of `questions::select`.
-use mathlib.Core.Path.{◌≡◌, sym, ap, ◌∙◌}
-use mathlib.Core.Bool.{true, false}
+use mathlib.Core.Path.{◌≡◌}
 use mathlib.Core.List.{List}
-use mathlib.Core.Logic.{◌≢◌}
-use Prim.Native.Nat.{ℕ, suc, ◌+◌, ◌-◌, ◌*◌, ◌≤◌, ◌<◌}
-use native.Mathlib.Omega.{arith}
-use borrow.Author.Rules.{rules}
-use Rattle.refusal.specs.Conditions.{bit_of, openings}
-use Rattle.excess.proofs.Bits.{read_bit}
-use Rattle.shape.proofs.Heights.{opens, shuts}
+use Prim.Native.Nat.{ℕ, ◌+◌, ◌-◌, ◌*◌, ◌≤◌}
+use Rattle.refusal.specs.Conditions.{openings}
 use Rattle.questions.proofs.openings.select.Given as goal
 
 -- m bits of byte j are passed, and so many openings are still to pass

@@ -1,10 +1,10 @@
 -- `questions::openings::select_byte` meets its contract.
 use mathlib.Core.Path.{◌≡◌}
-use Prim.Native.Nat.{◌+◌, ◌-◌, ◌*◌}
+use Prim.Native.Nat.{◌+◌, ◌*◌}
 use native.Mathlib.Omega.{arith}
 use lib.ListN.{length}
 use Rattle.refusal.specs.Conditions.{openings}
-use Rattle.questions.proofs.Counting.{Passing, passed_bytes, counted_byte}
+use Rattle.questions.proofs.Counting.{passed_bytes, counted_byte}
 use Rattle.questions.proofs.openings.select_byte.Goals as goal
 
 pub pass_eights-passed-requires : goal.pass_eights-passed-requires

@@ -1,10 +1,7 @@
 -- The loops of `questions::select_byte`.
-use mathlib.Core.Path.{◌≡◌}
-use Prim.Native.Nat.{◌+◌, ◌-◌, ◌*◌}
-use native.Mathlib.Omega.{arith}
+use Prim.Native.Nat.{◌-◌}
 use lib.ListN.{length}
-use Rattle.refusal.specs.Conditions.{openings}
-use Rattle.questions.proofs.Counting.{Passing, passed_bytes, counted_byte}
+use Rattle.questions.proofs.Counting.{Passing}
 use Rattle.questions.proofs.openings.select_byte.Given as goal
 
 abbrev pub invariant-loop-byte : goal.invariant-loop-byte

@@ -1,7 +1,6 @@
 -- `search::sums::at_end` meets its contract.
 use mathlib.Core.Path.{refl, ap, ◌∙◌}
 use native.Mathlib.Omega.{arith}
-use borrow.Author.Rules.{rules}
 use mir.Syntax.{w32}
 use mir.Val.{to_z, of_z}
 use Rattle.search.proofs.Signed.{back, fits, excess_near, excess_entry, end_is, end_fits}
@@ -14,9 +13,8 @@ pub overflow_add-result : goal.overflow_add-result
 overflow_add-result c = rw (end_is c.args.s.sum c.requires.0 c.args.half c.requires.1 c.requires.2) (fits (end_fits c.args.s.sum c.requires.0 c.args.half c.requires.1))
 
 pub returns : goal.returns
-returns c =
-    (
-      refl,
-      ap (λ z. to_z w32 (of_z w32 z)) (end_is c.args.s.sum c.requires.0 c.args.half c.requires.1 c.requires.2)
-          ∙ back _ (end_fits c.args.s.sum c.requires.0 c.args.half c.requires.1),
-    )
+returns c = (
+  refl,
+  ap (λ z. to_z w32 (of_z w32 z)) (end_is c.args.s.sum c.requires.0 c.args.half c.requires.1 c.requires.2)
+      ∙ back _ (end_fits c.args.s.sum c.requires.0 c.args.half c.requires.1),
+)

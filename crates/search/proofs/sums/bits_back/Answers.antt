@@ -1,12 +1,10 @@
 -- `search::sums::bits_back` meets its contract.
 use mathlib.Core.Path.{sym, ◌∙◌}
 use mathlib.Core.Bool.{not}
-use Prim.Native.Nat.{◌-◌}
 use native.Mathlib.Omega.{arith}
 use lib.Signed.{mag}
 use Rattle.refusal.specs.Conditions.{bit_of}
 use Rattle.search.proofs.Signed.{turned_small}
-use Rattle.search.specs.Steps.{GoingBack}
 use Rattle.search.proofs.Back.{back_start, back_fell, back_going, back_ended}
 use Rattle.search.proofs.sums.bits_back.Goals as goal
 

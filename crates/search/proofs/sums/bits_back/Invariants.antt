@@ -1,13 +1,6 @@
 -- The loops of `search::bits_back`.
-use mathlib.Core.Path.{sym, ◌∙◌}
-use mathlib.Core.Bool.{not}
 use Prim.Native.Nat.{◌-◌}
-use native.Mathlib.Omega.{arith}
-use lib.Signed.{mag}
-use Rattle.refusal.specs.Conditions.{bit_of}
-use Rattle.search.proofs.Signed.{turned_small}
 use Rattle.search.specs.Steps.{GoingBack}
-use Rattle.search.proofs.Back.{back_start, back_fell, back_going, back_ended}
 use Rattle.search.proofs.sums.bits_back.Given as goal
 
 abbrev pub invariant-loop-s : goal.invariant-loop-s

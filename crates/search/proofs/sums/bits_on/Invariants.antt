@@ -1,12 +1,6 @@
 -- The loops of `search::bits_on`.
-use mathlib.Core.Path.{sym, ◌∙◌}
 use Prim.Native.Nat.{◌-◌}
-use native.Mathlib.Omega.{arith}
-use lib.Signed.{mag}
-use Rattle.refusal.specs.Conditions.{bit_of}
-use Rattle.search.proofs.Signed.{turned_small}
 use Rattle.search.specs.Steps.{GoingOn}
-use Rattle.search.proofs.On.{on_start, on_fell, on_going, on_ended}
 use Rattle.search.proofs.sums.bits_on.Given as goal
 
 abbrev pub invariant-loop-s : goal.invariant-loop-s

@@ -1,7 +1,5 @@
 -- `search::sums::bytes_on` meets its contract.
-use Prim.Native.Nat.{◌-◌, ◌*◌}
 use native.Mathlib.Omega.{arith}
-use Rattle.search.specs.Steps.{GoingOn}
 use Rattle.search.proofs.On.{on_start, on_on, bytes_ready}
 use Rattle.search.proofs.sums.bytes_on.Goals as goal
 

@@ -1,8 +1,6 @@
 -- The loops of `search::bytes_on`.
 use Prim.Native.Nat.{◌-◌, ◌*◌}
-use native.Mathlib.Omega.{arith}
 use Rattle.search.specs.Steps.{GoingOn}
-use Rattle.search.proofs.On.{on_start, on_on, bytes_ready}
 use Rattle.search.proofs.sums.bytes_on.Given as goal
 
 abbrev pub invariant-loop-s : goal.invariant-loop-s

@@ -1,6 +1,5 @@
 -- `search::sums::falls_in` meets its contract.
 use mathlib.Core.Path.{ap, ◌∙◌}
-use borrow.Author.Rules.{rules}
 use lib.IntN.{pos, ◌+ℤ◌}
 use lib.Signed.{lt_z}
 use mir.Syntax.{w32}

@@ -1,12 +1,11 @@
 -- `search::sums::pass_back` meets its contract.
 use mathlib.Core.Path.{◌≡◌, sym, ap, ◌∙◌}
-use Prim.Native.Nat.{◌-◌, ◌*◌, ◌%◌, ◌/◌, ◌≤◌, ◌<◌}
+use Prim.Native.Nat.{◌-◌, ◌%◌, ◌/◌, ◌≤◌, ◌<◌}
 use native.Mathlib.Omega.{arith}
 use lib.IntN.{◌-ℤ◌}
 use lib.Signed.{mag}
 use Rattle.excess.specs.Excess.{half_excess}
 use Rattle.search.proofs.Signed.{start_small}
-use Rattle.search.specs.Steps.{GoingBack}
 use Rattle.search.proofs.Back.{back_start, byte_going}
 use Rattle.search.proofs.sums.pass_back.Goals as goal
 

@@ -1,13 +1,6 @@
 -- The loops of `search::pass_back`.
-use mathlib.Core.Path.{◌≡◌, sym, ap, ◌∙◌}
-use Prim.Native.Nat.{◌-◌, ◌*◌, ◌%◌, ◌/◌, ◌≤◌, ◌<◌}
-use native.Mathlib.Omega.{arith}
-use lib.IntN.{◌-ℤ◌}
-use lib.Signed.{mag}
-use Rattle.excess.specs.Excess.{half_excess}
-use Rattle.search.proofs.Signed.{start_small}
+use Prim.Native.Nat.{◌*◌}
 use Rattle.search.specs.Steps.{GoingBack}
-use Rattle.search.proofs.Back.{back_start, byte_going}
 use Rattle.search.proofs.sums.pass_back.Given as goal
 
 abbrev pub invariant-loop-s : goal.invariant-loop-s

@@ -1,12 +1,11 @@
 -- `search::sums::pass_on` meets its contract.
 use mathlib.Core.Path.{◌≡◌, sym, ap, ◌∙◌}
-use Prim.Native.Nat.{◌-◌, ◌*◌, ◌%◌, ◌≤◌, ◌<◌}
+use Prim.Native.Nat.{◌%◌, ◌≤◌, ◌<◌}
 use native.Mathlib.Omega.{arith}
 use lib.IntN.{◌+ℤ◌}
 use lib.Signed.{mag}
 use Rattle.excess.specs.Excess.{half_excess}
 use Rattle.search.proofs.Signed.{end_small}
-use Rattle.search.specs.Steps.{GoingOn}
 use Rattle.search.proofs.On.{on_start, byte_going}
 use Rattle.search.proofs.sums.pass_on.Goals as goal
 

@@ -1,13 +1,6 @@
 -- The loops of `search::pass_on`.
-use mathlib.Core.Path.{◌≡◌, sym, ap, ◌∙◌}
-use Prim.Native.Nat.{◌-◌, ◌*◌, ◌%◌, ◌≤◌, ◌<◌}
-use native.Mathlib.Omega.{arith}
-use lib.IntN.{◌+ℤ◌}
-use lib.Signed.{mag}
-use Rattle.excess.specs.Excess.{half_excess}
-use Rattle.search.proofs.Signed.{end_small}
+use Prim.Native.Nat.{◌-◌, ◌*◌}
 use Rattle.search.specs.Steps.{GoingOn}
-use Rattle.search.proofs.On.{on_start, byte_going}
 use Rattle.search.proofs.sums.pass_on.Given as goal
 
 abbrev pub invariant-loop-s : goal.invariant-loop-s

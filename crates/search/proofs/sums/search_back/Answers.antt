@@ -2,7 +2,6 @@
 use mathlib.Core.Path.{◌≡◌, sym, ◌∙◌}
 use Prim.Native.Nat.{◌*◌}
 use native.Mathlib.Omega.{arith}
-use borrow.Author.Rules.{rules}
 use lib.IntN.{pos}
 use Rattle.search.specs.Steps.{GoingBack}
 use Rattle.search.proofs.Back.{back_then, leg_going, leg_fell, leg_ready, leg_passed, back_found}

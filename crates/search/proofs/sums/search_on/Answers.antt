@@ -2,7 +2,6 @@
 use mathlib.Core.Path.{◌≡◌, sym, ◌∙◌}
 use Prim.Native.Nat.{◌*◌}
 use native.Mathlib.Omega.{arith}
-use borrow.Author.Rules.{rules}
 use lib.IntN.{pos}
 use Rattle.search.specs.Steps.{GoingOn}
 use Rattle.search.proofs.On.{on_then, on_on, leg_going, leg_ended, leg_fell, leg_ready, leg_passed, on_found}
