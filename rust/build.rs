@@ -1,4 +1,4 @@
-//! Links `liblyndon.a`, which `rt staticlib lyndon` writes.
+//! Links `liblyndon.a`, which `tools/build lyndon` writes.
 
 use std::env;
 use std::path::{absolute, PathBuf};
@@ -19,7 +19,7 @@ fn main() {
         // Cargo runs this in the package's directory, so that is where a relative path starts.
         let missing = absolute(&archive).unwrap_or(archive);
         eprintln!("{} is missing.", missing.display());
-        eprintln!("Run `rt staticlib lyndon` at the repository's root, which writes target/staticlib/liblyndon.a,");
+        eprintln!("Run `tools/build lyndon` at the repository's root, which writes target/staticlib/liblyndon.a,");
         eprintln!("or set {DIRECTORY} to the directory that holds liblyndon.a; a relative one starts at the directory");
         eprintln!("of this package.");
         exit(1);

@@ -1,4 +1,4 @@
-//! The programs `tables` and `trees`, which `rt check` makes, run with inputs and held to their outputs.
+//! The programs `tables` and `trees`, which `tools/build` makes, run with inputs and held to their outputs.
 
 use std::io::Write;
 use std::path::{Path, PathBuf};
@@ -22,7 +22,7 @@ fn path_of(program: &str) -> PathBuf {
     let path = Path::new(PACKAGE).join(directory).join(program);
     assert!(
         path.is_file(),
-        "{} is missing: run `rt check` at the repository's root, which writes target/bin/{program}, \
+        "{} is missing: run `tools/build {program}` at the repository's root, which writes target/bin/{program}, \
         or set {DIRECTORY} to the directory that holds it",
         path.display()
     );

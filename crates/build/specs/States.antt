@@ -5,7 +5,7 @@ use Rattle.ranks.specs.Ranks.{string_of, oriented}
 use Rattle.entries.specs.Cleared.{cleared_from}
 use Rattle.reuse.specs.Steps.{Progress, BuildState, ScanReport, SettledPair, scan, settle}
 use Rattle.build.specs.declared.State.{State}
-use Rattle.build.specs.declared.ScanReport as declaredReport
+use Rattle.build.specs.declared.ScanReport as declared_report
 use Rattle.build.specs.declared.SettledPair as declared
 use Rattle.outcome.specs.Built.{tables_of}
 
@@ -16,7 +16,7 @@ oriented_string wide reverse letters symbols = oriented reverse (string_of wide 
 abbrev pub progress_of : State → Progress
 progress_of s = record { reach = s.reach; shift = s.shift; equal = s.equal; unequal = s.unequal }
 
-abbrev pub report_of : declaredReport.ScanReport → ScanReport
+abbrev pub report_of : declared_report.ScanReport → ScanReport
 report_of u = record { match = u.matched; left_smaller = u.left_smaller; equal = u.equal; unequal = u.unequal }
 
 abbrev pub pair_of : declared.SettledPair → SettledPair

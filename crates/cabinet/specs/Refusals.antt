@@ -52,9 +52,9 @@ abbrev pub any_too_long : List ℕ → Bool
 any_too_long counts = any_below (length counts) (λ k. too_long (count_in counts k))
 
 -- "trees or buffer of the wrong size", of so many bytes each
-abbrev pub size_off : List ℕ → (treesSize size : ℕ) → Bool
-size_off counts treesSize size =
-    let bytes = body_bytes (count_in counts) (length counts) in not (eqb treesSize bytes) || not (eqb size (contents_end (length counts) + bytes))
+abbrev pub size_off : List ℕ → (trees_size size : ℕ) → Bool
+size_off counts trees_size size =
+    let bytes = body_bytes (count_in counts) (length counts) in not (eqb trees_size bytes) || not (eqb size (contents_end (length counts) + bytes))
 
 -- the first flaw among the trees end to end
 abbrev pub trees_flaw : List ℕ → List ℕ → ℕ

@@ -17,10 +17,10 @@ use Rattle.replies.specs.declared.CabinetReply.{CabinetReply}
 
 -- A reply that carries the figures of an operation, and these are as the operation's own record has them: what it answers, and what it leaves in
 -- the memory that is lent to it.
-pub record Replied {Figures Structure : Type 0} (replyOf : Figures → Structure) (Exactly : Figures → Type 0) (given : Structure) : Type 0 where
+pub record Replied {Figures Structure : Type 0} (reply_of : Figures → Structure) (Exactly : Figures → Type 0) (given : Structure) : Type 0 where
   pub figures : Figures
   pub exactly : Exactly figures
-  pub replies : given ≡ replyOf figures
+  pub replies : given ≡ reply_of figures
 
 -- "A refusal carries its number and no other figure": the others are 0
 abbrev pub build_reply : build.Figures → BuildReply

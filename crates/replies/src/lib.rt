@@ -2,7 +2,7 @@
 #![tactic(auto)]
 
 ghost use Rattle.std.specs.Prelude.{◌≡◌};
-ghost use Rattle.outcome.specs.Built.{figures_of as builtFigures};
+ghost use Rattle.outcome.specs.Built.{figures_of as built_figures};
 ghost use Rattle.checker.specs.Checked.{finding_of};
 ghost use Rattle.refusal.specs.Answers.{figures_of};
 ghost use Rattle.small_trees.specs.Answers.{going_of};
@@ -75,7 +75,7 @@ pub struct CabinetReply {
 }
 
 pub fn build_reply(built: Built) -> BuildReply
-    ensures { result ≡ build_reply (builtFigures built) }
+    ensures { result ≡ build_reply (built_figures built) }
 {
     match built {
         Built::Finished(k) => BuildReply {

@@ -16,7 +16,7 @@ use Rattle.suffix.proofs.Edges.{Edge, no_cross, edge_prev, edge_next}
 use Rattle.suffix.proofs.Order.{extended, lce_match, agree_fits}
 use Rattle.suffix.proofs.Nearest.{previous_is, next_is, next_at_lem}
 use Rattle.suffix.proofs.Rows.{previous_after_in, previous_match_after_in, previous_match_some, next_after_in, next_after_out, next_match_after_in, next_match_some}
-use Rattle.reuse.specs.Steps.{Progress, ScanReport, SettledPair, scanned as scannedPair, scan_from, reuse, settle}
+use Rattle.reuse.specs.Steps.{Progress, ScanReport, SettledPair, scanned as scanned_pair, scan_from, reuse, settle}
 use Rattle.reuse.proofs.Windows.{Window, match_back, match_to_end, less_back, edge_shift}
 use Rattle.reuse.proofs.Scan.{Told, Reported, scan_told}
 
@@ -163,7 +163,7 @@ module _ (y : List ℕ) (s : Progress) (l r : ℕ) (small : r < length y) (e : E
       let f : r + m ≤ length y = agree_fits y e.before (omega arith) a in
       done (scan_told y l r m (length y - (r + m)) s.equal s.unequal e.before (omega arith) a)
     where
-      done : {u : ScanReport} → Reported y l r m s.equal s.unequal u → Settled y s l r (scannedPair l r u)
+      done : {u : ScanReport} → Reported y l r m s.equal s.unequal u → Settled y s l r (scanned_pair l r u)
       done {u} S =
           let z : r - (r - l) ≡ l = omega (arith, e.before) in
           let x : r + u.match - r ≡ u.match = omega arith in
@@ -275,12 +275,12 @@ module _ (y : List ℕ) (s : Progress) (l r : ℕ) (small : r < length y) (e : E
 
           before : Less (extended y) a b → ByPrevious
           before g =
-              let b-in : b < length y = omega arith in
-              let pv : previous y b ≡ a = previous_is y b b-in a (edge_prev (extended y) E g) in
+              let b_in : b < length y = omega arith in
+              let pv : previous y b ≡ a = previous_is y b b_in a (edge_prev (extended y) E g) in
               let v : get_or t.previous_match b 0 ≡ lce y a b =
-              T.previous_match b b-in ∙ previous_match_after_in y r b b_row ∙ previous_match_some y b a (omega (arith, a_in)) pv in (
+              T.previous_match b b_in ∙ previous_match_after_in y r b b_row ∙ previous_match_some y b a (omega (arith, a_in)) pv in (
                 missing g,
-                T.previous b b-in ∙ previous_after_in y r b b_row ∙ pv,
+                T.previous b b_in ∙ previous_after_in y r b b_row ∙ pv,
                 rw v (record { match = M; left = λ z. g; right = λ z. absurd (true≢false z) }),
               )
 

@@ -23,6 +23,6 @@ work_with l n =
     found.starts ∷ found.periods ∷ found.ends ∷ none ∷ none ∷ none ∷ []
 
 -- of one and the same call, whatever the string and the lent tables
-pub record Gathered (y : List ℕ) (work workExit : List (List ℕ)) (r : Answer) : Type 0 where
+pub record Gathered (y : List ℕ) (work work_exit : List (List ℕ)) (r : Answer) : Type 0 where
   pub answers : figures_of r ≡ answered (work_refusal (length y) (map length work)) (length (runs y))
-  pub leaves : workExit ≡ unless_refused (work_refusal (length y) (map length work)) (work_with (runs y) (length y)) work
+  pub leaves : work_exit ≡ unless_refused (work_refusal (length y) (map length work)) (work_with (runs y) (length y)) work

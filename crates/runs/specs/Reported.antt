@@ -9,7 +9,7 @@ abbrev pub work_of : (previous next previous_match next_match reverse_next rever
 work_of previous next previous_match next_match reverse_next reverse_match = previous ∷ next ∷ previous_match ∷ next_match ∷ reverse_next ∷ reverse_match ∷ []
 
 -- of one and the same call, whatever the string and the lent memory
-pub record Reported (y : List ℕ) (work : List (List ℕ)) (lists : Lists) (workExit : List (List ℕ)) (listsExit : Lists) (figures : Figures) : Type 0 where
+pub record Reported (y : List ℕ) (work : List (List ℕ)) (lists : Lists) (work_exit : List (List ℕ)) (lists_exit : Lists) (figures : Figures) : Type 0 where
   pub answers : figures ≡ answer y work lists
-  pub leaves_lists : listsExit ≡ lists_after y work lists
-  pub leaves_work : workExit ≡ work_after y work lists
+  pub leaves_lists : lists_exit ≡ lists_after y work lists
+  pub leaves_work : work_exit ≡ work_after y work lists

@@ -286,5 +286,5 @@ smallest_rotation_is_lyndon y s D M = alone_smallest y (omega (arith, M.within))
 pub rows_write_the_tree : RowsWriteTheTree
 rows_write_the_tree = rows_write_lem
 
-pub tree_has_two_bits_aRow : TreeHasTwoBitsARow
-tree_has_two_bits_aRow y R h = tree_length_lem y R h ∙ omega arith
+pub tree_has_two_bits_a_row : TreeHasTwoBitsARow
+tree_has_two_bits_a_row y R h = tree_length_lem y R h ∙ omega arith

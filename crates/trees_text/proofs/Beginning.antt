@@ -32,7 +32,7 @@ module _ {n : ℕ} {buffer tree : List ℕ} {number : ℕ} (F : FirstGiven n buf
     unfolding first_tree
     first_taken = rw given (listed_taken n 0 (first_inside n (length buffer) taken) (some_tree n))
 
-    pub begun_first : {m : ℕ} {after text textAfter : List ℕ} {line : Line} → m ≡ n → LineMade m tree after text textAfter line → Begun n buffer after text textAfter line
+    pub begun_first : {m : ℕ} {after text text_after : List ℕ} {line : Line} → m ≡ n → LineMade m tree after text text_after line → Begun n buffer after text text_after line
     begun_first z m =
         let L = rw (z, given) at m in
         record {
@@ -42,7 +42,7 @@ module _ {n : ℕ} {buffer tree : List ℕ} {number : ℕ} (F : FirstGiven n buf
         }
 
   -- it is refused
-  pub begun_none : {text textAfter : List ℕ} {size : ℕ} → number ≢ 0 → Put text textAfter no_size_text 0 size → Begun n buffer tree text textAfter (record { length = size; last = true })
+  pub begun_none : {text text_after : List ℕ} {size : ℕ} → number ≢ 0 → Put text text_after no_size_text 0 size → Begun n buffer tree text text_after (record { length = size; last = true })
   begun_none h w =
       let f : r ≢ 0 = λ z. h (F.answers ∙ z) in
       record {
@@ -52,11 +52,11 @@ module _ {n : ℕ} {buffer tree : List ℕ} {number : ℕ} (F : FirstGiven n buf
       }
 
 -- what the first line tells
-module _ {n : ℕ} {buffer after text textAfter : List ℕ} {line : Line} (b : Begun n buffer after text textAfter line) where
+module _ {n : ℕ} {buffer after text text_after : List ℕ} {line : Line} (b : Begun n buffer after text text_after line) where
   abbrev q : ℕ
   q = first_refusal n (length buffer)
 
-  pub begun_made : q ≡ 0 → LineMade n (first_tree n) after text textAfter line
+  pub begun_made : q ≡ 0 → LineMade n (first_tree n) after text text_after line
   begun_made z =
       record {
         text = rw (unless_taken q (line_text n (first_tree n)) no_size_text z) at b.text;
@@ -64,5 +64,5 @@ module _ {n : ℕ} {buffer after text textAfter : List ℕ} {line : Line} (b : B
         leaves = b.leaves ∙ unless_taken q (next_tree n (first_tree n)) buffer z;
       }
 
-  pub begun_no_size : q ≢ 0 → Put text textAfter no_size_text 0 line.length × (line.last ≡ true)
+  pub begun_no_size : q ≢ 0 → Put text text_after no_size_text 0 line.length × (line.last ≡ true)
   begun_no_size z = (rw (unless_refused_lem q (line_text n (first_tree n)) no_size_text z) at b.text, b.stop ∙ unless_refused_lem q (is_last n (first_tree n)) true z)

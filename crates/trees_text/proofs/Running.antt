@@ -57,7 +57,7 @@ module _ {n written : ℕ} {line : Line} {tree : List ℕ} where
       rw (t, next_is n k h c) (listed_taken n (suc k) s c)
 
   pub running_again :
-      {after text textAfter : List ℕ} {made : Line} → Running n written line tree → line.last ≡ false → 300 ≤ length text → LineMade n tree after text textAfter made
+      {after text text_after : List ℕ} {made : Line} → Running n written line tree → line.last ≡ false → 300 ≤ length text → LineMade n tree after text text_after made
       → Running n (written + line.length) made after
   running_again (none r w l e) q x m = absurd (true≢false (sym e ∙ q))
   running_again (at k s h w l e t) q x m =
@@ -67,7 +67,7 @@ module _ {n written : ℕ} {line : Line} {tree : List ℕ} where
       at (suc k) s c (omega (arith, lines_more n s k)) (omega (arith, (put_fits m.text (omega arith)).size, ap (λ t. length (line_text n t)) z)) (m.stop ∙ ap (is_last n) z) (m.leaves ∙ ap (next_tree n) z)
 
 pub running_start :
-    {n : ℕ} {buffer after text textAfter : List ℕ} {line : Line} → length buffer ≡ tree_length n → 300 ≤ length text → Begun n buffer after text textAfter line
+    {n : ℕ} {buffer after text text_after : List ℕ} {line : Line} → length buffer ≡ tree_length n → 300 ≤ length text → Begun n buffer after text text_after line
     → Running n 0 line after
 unfolding lines_text first_tree
 running_start {n} {buffer} {after} {line = line} e x b = go (same? (first_refusal n (length buffer)) 0)

@@ -14,7 +14,7 @@ loop-m-init c = (filling_at c.loop-j.invariant (omega arith), omega arith)
 
 pub fill_bracket-s-requires : goal.fill_bracket-s-requires
 fill_bracket-s-requires c =
-    let next-in-byte : let b = c.loop-m in
+    let next_in_byte : let b = c.loop-m in
     Next c.args.n c.args.tree.now (filled_of b.s b.previous b.next) (8 * c.loop-j.j + b.m) c.bit.result = let b = c.loop-m in
     record {
       small = c.requires.0;
@@ -23,11 +23,11 @@ fill_bracket-s-requires c =
       more = omega arith;
       is_next = read_bit c.args.tree.now c.loop-j.j (omega arith) c.bit.ensures;
     } in
-    next_fillable next-in-byte
+    next_fillable next_in_byte
 
 pub loop-m-preserved : goal.loop-m-preserved
 loop-m-preserved c =
-    let next-in-byte : let b = c.loop-m in
+    let next_in_byte : let b = c.loop-m in
     Next c.args.n c.args.tree.now (filled_of b.s b.previous b.next) (8 * c.loop-j.j + b.m) c.bit.result = let b = c.loop-m in
     record {
       small = c.requires.0;
@@ -36,7 +36,7 @@ loop-m-preserved c =
       more = omega arith;
       is_next = read_bit c.args.tree.now c.loop-j.j (omega arith) c.bit.ensures;
     } in
-    (filling_at (next_read next-in-byte c.fill_bracket-s.ensures) (omega arith), omega arith)
+    (filling_at (next_read next_in_byte c.fill_bracket-s.ensures) (omega arith), omega arith)
 
 pub loop-j-preserved : goal.loop-j-preserved
 loop-j-preserved c = filling_at c.loop-m.invariant.0 (omega arith)
@@ -46,13 +46,13 @@ loop-k-init c = filling_at c.loop-j.invariant (omega arith)
 
 pub fill_bracket-s-requires-in-loop-k : goal.fill_bracket-s-requires-in-loop-k
 fill_bracket-s-requires-in-loop-k c =
-    let next-behind : Next c.args.n c.args.tree.now (filled_of c.loop-k.s c.loop-k.previous c.loop-k.next) c.loop-k.k c.is_open.result = record { small = c.requires.0; flawless = c.requires.4; filling = c.loop-k.invariant; more = omega arith; is_next = c.is_open.ensures } in
-    next_fillable next-behind
+    let next_behind : Next c.args.n c.args.tree.now (filled_of c.loop-k.s c.loop-k.previous c.loop-k.next) c.loop-k.k c.is_open.result = record { small = c.requires.0; flawless = c.requires.4; filling = c.loop-k.invariant; more = omega arith; is_next = c.is_open.ensures } in
+    next_fillable next_behind
 
 pub loop-k-preserved : goal.loop-k-preserved
 loop-k-preserved c =
-    let next-behind : Next c.args.n c.args.tree.now (filled_of c.loop-k.s c.loop-k.previous c.loop-k.next) c.loop-k.k c.is_open.result = record { small = c.requires.0; flawless = c.requires.4; filling = c.loop-k.invariant; more = omega arith; is_next = c.is_open.ensures } in
-    next_read next-behind c.fill_bracket-s-in-loop-k.ensures
+    let next_behind : Next c.args.n c.args.tree.now (filled_of c.loop-k.s c.loop-k.previous c.loop-k.next) c.loop-k.k c.is_open.result = record { small = c.requires.0; flawless = c.requires.4; filling = c.loop-k.invariant; more = omega arith; is_next = c.is_open.ensures } in
+    next_read next_behind c.fill_bracket-s-in-loop-k.ensures
 
 pub returns : goal.returns
 returns c = filling_end c.requires.4 c.loop-k.invariant (omega arith)

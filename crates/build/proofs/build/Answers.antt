@@ -31,9 +31,9 @@ build_rows-state-requires c =
     let none_refused : let t = before.tables in
     build_refusal c.string_length-n.result c.args.rows (length t.previous) (length t.next) (length t.previous_match) (length t.next_match) (length before.tree) ≡ 0 = sym c.build_verdict-verdict.ensures ∙ ap verdict_number c.in_default.is in
     let accepted : Accepted c.string_length-n.result c.args.rows before = answers.accepted _ _ _ none_refused in
-    let cleared-long : length c.clear_bytes.new.bytes ≡ length c.args.tree.now = ap length c.clear_bytes.ensures ∙ length-replicate _ _ in
+    let cleared_long : length c.clear_bytes.new.bytes ≡ length c.args.tree.now = ap length c.clear_bytes.ensures ∙ length-replicate _ _ in
     let a = accepted in
-    let z = cleared-long in
+    let z = cleared_long in
     record {
       symbols_len = (sym c.string_length-n.ensures, a.few, a.rows);
       previous_len = (a.previous, a.next, a.previous_match, a.next_match);
@@ -97,9 +97,9 @@ returns c =
     let taken : refusal_of y c.args.rows before ≡ 0 = sym (answers.refusal_at y c.args.rows before c.string_length-n.ensures) ∙ none_refused in
     let after : Lent = let u = c.clear_tables.new in lent u.previous u.next u.previous_match u.next_match c.build_rows-state.new.tree in
     let accepted : Accepted c.string_length-n.result c.args.rows before = answers.accepted _ _ _ none_refused in
-    let cleared-long : length c.clear_bytes.new.bytes ≡ length c.args.tree.now = ap length c.clear_bytes.ensures ∙ length-replicate _ _ in
+    let cleared_long : length c.clear_bytes.new.bytes ≡ length c.args.tree.now = ap length c.clear_bytes.ensures ∙ length-replicate _ _ in
     let tree_is : after.tree ≡ tree_bytes y c.args.rows = part_whole (length c.clear_bytes.new.bytes) (tree_bytes y c.args.rows) c.build_rows-state.ensures.tree_after
-    (cleared-long ∙ accepted.tree ∙ ap tree_length c.string_length-n.ensures ∙ sym (bytes_length y c.args.rows)) in
+    (cleared_long ∙ accepted.tree ∙ ap tree_length c.string_length-n.ensures ∙ sym (bytes_length y c.args.rows)) in
     let exact : build_state c.build_rows-state.result after.tables ≡ after_rows y c.args.rows = let e = c.clear_tables.ensures in
     ap (build_state c.build_rows-state.result) (tables_cleared _ e.0 e.1 e.2 e.3 (omega arith) (omega arith)) ∙ c.build_rows-state.ensures.next_match_after in
     answers.built _ _ _ taken (progress_of c.build_rows-state.result) after exact tree_is c.string_length-n.ensures c.build_rows-state.ensures.rows_value c.answer.ensures

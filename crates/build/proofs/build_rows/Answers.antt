@@ -103,8 +103,8 @@ pub rows-preserved-then-pair : goal.rows-preserved-then-pair
 rows-preserved-then-pair c =
     let told : law.Settled c.walk.invariant c.settle-pair.result = record { pair = c.settle-pair.ensures.result_value; rows_stay = c.settle-pair.ensures.rows_value } in
     let tree_long : length c.set_bit.new.tree ≡ length c.args.tree.now = c.tree-1.given ∙ c.rows.invariant.1 in
-    let tree-stays : length c.set_bit.new.tree ≡ length c.args.tree.now = tree_long in
-    (law.ends_left c.walk.invariant told c.if-pair.true, tree-stays)
+    let tree_stays : length c.set_bit.new.tree ≡ length c.args.tree.now = tree_long in
+    (law.ends_left c.walk.invariant told c.if-pair.true, tree_stays)
 
 pub record_entry-requires-in-walk : goal.record_entry-requires-in-walk
 record_entry-requires-in-walk c =
@@ -134,11 +134,11 @@ rows-preserved-then-p-n c =
     let same : length y ≡ c.args.n = string_length c.args.wide c.args.reverse c.args.letters.now c.args.symbols.now ∙ c.requires.symbols_len.0 in
     let told : law.Settled c.walk.invariant c.settle-pair.result = record { pair = c.settle-pair.ensures.result_value; rows_stay = c.settle-pair.ensures.rows_value } in
     let tree_long : length c.set_bit.new.tree ≡ length c.args.tree.now = c.tree-1.given ∙ c.rows.invariant.1 in
-    let tree-stays : length c.set_bit.new.tree ≡ length c.args.tree.now = tree_long in
+    let tree_stays : length c.set_bit.new.tree ≡ length c.args.tree.now = tree_long in
     let next_recorded : tables_of c.record_entry.new.table c.record_entry-in-walk.new.table c.record_entry.new.matches c.record_entry-in-walk.new.matches
     ≡ record_next (tables_of c.record_entry.new.table c.walk.next c.record_entry.new.matches c.walk.next_match) c.walk.l
     (c.rows.state.rows + 1) c.settle-pair.result.matched = tables_are refl c.record_entry-in-walk.ensures.0 refl c.record_entry-in-walk.ensures.1 in
-    (law.ends_none c.walk.invariant told c.if-pair.false next_recorded (c.if-p-n.true ∙ sym same), tree-stays)
+    (law.ends_none c.walk.invariant told c.if-pair.false next_recorded (c.if-p-n.true ∙ sym same), tree_stays)
 
 pub rows-smaller : goal.rows-smaller
 rows-smaller c =
@@ -151,7 +151,7 @@ unfolding record_next
 rows-preserved c =
     let told : law.Settled c.walk.invariant c.settle-pair.result = record { pair = c.settle-pair.ensures.result_value; rows_stay = c.settle-pair.ensures.rows_value } in
     let tree_long : length c.set_bit.new.tree ≡ length c.args.tree.now = c.tree-1.given ∙ c.rows.invariant.1 in
-    let tree-stays : length c.set_bit.new.tree ≡ length c.args.tree.now = tree_long in
+    let tree_stays : length c.set_bit.new.tree ≡ length c.args.tree.now = tree_long in
     let next_recorded : tables_of c.record_entry.new.table c.record_entry-in-walk.new.table c.record_entry.new.matches c.record_entry-in-walk.new.matches
     ≡ record_next (tables_of c.record_entry.new.table c.walk.next c.record_entry.new.matches c.walk.next_match) c.walk.l
     (c.rows.state.rows + 1) c.settle-pair.result.matched = tables_are refl c.record_entry-in-walk.ensures.0 refl c.record_entry-in-walk.ensures.1 in
@@ -159,7 +159,7 @@ rows-preserved c =
     let same : length y ≡ c.args.n = string_length c.args.wide c.args.reverse c.args.letters.now c.args.symbols.now ∙ c.requires.symbols_len.0 in
     let some : c.walk.p ≢ length y = λ q. c.if-p-n.false (q ∙ same) in (
       law.ends_less c.walk.invariant told c.if-pair.false next_recorded some (omega (arith, c.if-v-m.true)),
-      tree-stays,
+      tree_stays,
     )
 
 pub read-p-requires : goal.read-p-requires

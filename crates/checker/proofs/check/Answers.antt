@@ -28,32 +28,32 @@ pub returns-then-claimed-n : goal.returns-then-claimed-n
 returns-then-claimed-n c =
     let work : Tables = let g = c.args in tables_of g.previous.now g.next.now g.previous_match.now g.next_match.now in
     let y : List ℕ = string_of c.args.wide c.args.letters.now c.args.symbols.now in
-    let by-string : table_length_off (length y) (length c.args.claimed.now) ≡ table_length_off c.string_length-n.result (length c.args.claimed.now) = ap (λ n. table_length_off n (length c.args.claimed.now)) (sym c.string_length-n.ensures) in
+    let by_string : table_length_off (length y) (length c.args.claimed.now) ≡ table_length_off c.string_length-n.result (length c.args.claimed.now) = ap (λ n. table_length_off n (length c.args.claimed.now)) (sym c.string_length-n.ensures) in
     laws.refused_claim y c.args.claimed.now work (omega arith)
-    (laws.claimed_off y c.args.claimed.now work (omega (arith, c.if-n-le1000000.true, c.string_length-n.ensures)) (by-string ∙ is_off c.if-claimed-n.true) (omega arith))
+    (laws.claimed_off y c.args.claimed.now work (omega (arith, c.if-n-le1000000.true, c.string_length-n.ensures)) (by_string ∙ is_off c.if-claimed-n.true) (omega arith))
 
 pub compared-requires : goal.compared-requires
 compared-requires c =
     let work : Tables = let g = c.args in tables_of g.previous.now g.next.now g.previous_match.now g.next_match.now in
     let y : List ℕ = string_of c.args.wide c.args.letters.now c.args.symbols.now in
-    let by-string : table_length_off (length y) (length c.args.claimed.now) ≡ table_length_off c.string_length-n.result (length c.args.claimed.now) = ap (λ n. table_length_off n (length c.args.claimed.now)) (sym c.string_length-n.ensures) in
-    let same-refusal : check_refusal y c.args.claimed.now work ≡ tables_refusal_of y work =
+    let by_string : table_length_off (length y) (length c.args.claimed.now) ≡ table_length_off c.string_length-n.result (length c.args.claimed.now) = ap (λ n. table_length_off n (length c.args.claimed.now)) (sym c.string_length-n.ensures) in
+    let same_refusal : check_refusal y c.args.claimed.now work ≡ tables_refusal_of y work =
     elim c.else-n-le1000000.branch [
-      | else-n-le1000000-via-then-n-le1000000+else-claimed-n w ↦ laws.as_build y c.args.claimed.now work (by-string ∙ is_right w.if-claimed-n.false)
+      | else-n-le1000000-via-then-n-le1000000+else-claimed-n w ↦ laws.as_build y c.args.claimed.now work (by_string ∙ is_right w.if-claimed-n.false)
       | else-n-le1000000-via-else-n-le1000000 w ↦ laws.too_long_lem y c.args.claimed.now work (omega (arith, w.if-n-le1000000.false, c.string_length-n.ensures))
     ] in
     let left : Tables = let u = c.build_tables-built.new in tables_of u.previous u.next u.previous_match u.next_match in
-    laws.lengths y c.args.claimed.now {before = work} {after = left} c.build_tables-built.ensures same-refusal
+    laws.lengths y c.args.claimed.now {before = work} {after = left} c.build_tables-built.ensures same_refusal
 
 pub returns : goal.returns
 returns c =
     let work : Tables = let g = c.args in tables_of g.previous.now g.next.now g.previous_match.now g.next_match.now in
     let y : List ℕ = string_of c.args.wide c.args.letters.now c.args.symbols.now in
-    let by-string : table_length_off (length y) (length c.args.claimed.now) ≡ table_length_off c.string_length-n.result (length c.args.claimed.now) = ap (λ n. table_length_off n (length c.args.claimed.now)) (sym c.string_length-n.ensures) in
-    let same-refusal : check_refusal y c.args.claimed.now work ≡ tables_refusal_of y work =
+    let by_string : table_length_off (length y) (length c.args.claimed.now) ≡ table_length_off c.string_length-n.result (length c.args.claimed.now) = ap (λ n. table_length_off n (length c.args.claimed.now)) (sym c.string_length-n.ensures) in
+    let same_refusal : check_refusal y c.args.claimed.now work ≡ tables_refusal_of y work =
     elim c.else-n-le1000000.branch [
-      | else-n-le1000000-via-then-n-le1000000+else-claimed-n w ↦ laws.as_build y c.args.claimed.now work (by-string ∙ is_right w.if-claimed-n.false)
+      | else-n-le1000000-via-then-n-le1000000+else-claimed-n w ↦ laws.as_build y c.args.claimed.now work (by_string ∙ is_right w.if-claimed-n.false)
       | else-n-le1000000-via-else-n-le1000000 w ↦ laws.too_long_lem y c.args.claimed.now work (omega (arith, w.if-n-le1000000.false, c.string_length-n.ensures))
     ] in
     let left : Tables = let u = c.build_tables-built.new in tables_of u.previous u.next u.previous_match u.next_match in
-    laws.checked y c.args.claimed.now {before = work} {after = left} c.build_tables-built.ensures same-refusal c.compared.ensures
+    laws.checked y c.args.claimed.now {before = work} {after = left} c.build_tables-built.ensures same_refusal c.compared.ensures

@@ -116,8 +116,8 @@ returns-then-k-openings c =
     let T : IsBalanced n t = balanced in
     let P : Passed n t (suc k) o = let z : suc (c.loop-k.k - 1) ≡ c.loop-k.k = omega (arith, c.loop-k-test.true) in rw z c.loop-k.invariant.passed in
     let bit_is : c.is_open.result ≡ bit_of t k = c.is_open.ensures ∙ ap (λ t. bit_of t k) c.loop-k.invariant.kept in
-    let is-opening : bit_of t k ≡ true = sym bit_is ∙ c.if-is_open.true in
-    let e = is-opening in
+    let is_opening : bit_of t k ≡ true = sym bit_is ∙ c.if-is_open.true in
+    let e = is_opening in
     let h : k + 2 * (o + 1) < 2 * n = omega (arith, c.if-k-openings.true) in
     record {
       answers = sym (ap (λ b. cond b last next) (turned_next n t T P e h));
@@ -140,8 +140,8 @@ loop-k-preserved-else-k-openings c =
     let o : ℕ = c.loop-k.openings in
     let P : Passed n t (suc k) o = let z : suc (c.loop-k.k - 1) ≡ c.loop-k.k = omega (arith, c.loop-k-test.true) in rw z c.loop-k.invariant.passed in
     let bit_is : c.is_open.result ≡ bit_of t k = c.is_open.ensures ∙ ap (λ t. bit_of t k) c.loop-k.invariant.kept in
-    let is-opening : bit_of t k ≡ true = sym bit_is ∙ c.if-is_open.true in
-    record { kept = c.loop-k.invariant.kept; passed = pass_opening n t T P is-opening (omega (arith, c.if-k-openings.false)) }
+    let is_opening : bit_of t k ≡ true = sym bit_is ∙ c.if-is_open.true in
+    record { kept = c.loop-k.invariant.kept; passed = pass_opening n t T P is_opening (omega (arith, c.if-k-openings.false)) }
 
 pub loop-k-smaller : goal.loop-k-smaller
 loop-k-smaller c = omega (arith, c.loop-k-test.true)

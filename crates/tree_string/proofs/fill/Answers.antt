@@ -26,23 +26,23 @@ bounds-tree-n c =
 
 pub number_bracket-s-requires : goal.number_bracket-s-requires
 number_bracket-s-requires c =
-    let next-in-last : Next c.args.n c.args.tree.now (numbered_of c.loop-m.s c.loop-m.symbols) (8 * (c.args.n / 4) + (c.loop-m.m - 1)) c.opening_at.result = record {
+    let next_in_last : Next c.args.n c.args.tree.now (numbered_of c.loop-m.s c.loop-m.symbols) (8 * (c.args.n / 4) + (c.loop-m.m - 1)) c.opening_at.result = record {
       accepted = c.requires.0;
       writing = writing_at c.loop-m.invariant.0 (omega (arith, c.loop-m-test.true));
       more = λ z. c.if-s-n.false (omega arith);
       is_next = c.opening_at.ensures ∙ ap (λ b. cond b 1 0) (read_bit c.args.tree.now (c.args.n / 4) (omega arith) refl);
     } in
-    next_numberable next-in-last
+    next_numberable next_in_last
 
 pub loop-m-preserved : goal.loop-m-preserved
 loop-m-preserved c =
-    let next-in-last : Next c.args.n c.args.tree.now (numbered_of c.loop-m.s c.loop-m.symbols) (8 * (c.args.n / 4) + (c.loop-m.m - 1)) c.opening_at.result = record {
+    let next_in_last : Next c.args.n c.args.tree.now (numbered_of c.loop-m.s c.loop-m.symbols) (8 * (c.args.n / 4) + (c.loop-m.m - 1)) c.opening_at.result = record {
       accepted = c.requires.0;
       writing = writing_at c.loop-m.invariant.0 (omega (arith, c.loop-m-test.true));
       more = λ z. c.if-s-n.false (omega arith);
       is_next = c.opening_at.ensures ∙ ap (λ b. cond b 1 0) (read_bit c.args.tree.now (c.args.n / 4) (omega arith) refl);
     } in
-    (next_written next-in-last c.number_bracket-s.ensures, omega arith)
+    (next_written next_in_last c.number_bracket-s.ensures, omega arith)
 
 pub loop-j-init : goal.loop-j-init
 loop-j-init c = (writing_at c.loop-m.invariant.0 (omega arith), omega arith)
@@ -63,25 +63,25 @@ returns-then-s-n-2 c = all_numbered c.args.n c.args.tree.now c.requires.0 c.loop
 
 pub number_bracket-s-requires-in-loop-k : goal.number_bracket-s-requires-in-loop-k
 number_bracket-s-requires-in-loop-k c =
-    let next-in-byte : let b = c.loop-k in
+    let next_in_byte : let b = c.loop-k in
     Next c.args.n c.args.tree.now (numbered_of b.s b.symbols) (8 * (c.loop-j.j - 1) + (b.k - 1)) c.opening_at-in-loop-k.result = record {
       accepted = c.requires.0;
       writing = writing_at c.loop-k.invariant.0 (omega (arith, c.loop-k-test.true));
       more = λ z. c.if-s-n-2.false (omega arith);
       is_next = c.opening_at-in-loop-k.ensures ∙ ap (λ c. cond c 1 0) (read_bit c.args.tree.now (c.loop-j.j - 1) (omega arith) refl);
     } in
-    next_numberable next-in-byte
+    next_numberable next_in_byte
 
 pub loop-k-preserved : goal.loop-k-preserved
 loop-k-preserved c =
-    let next-in-byte : let b = c.loop-k in
+    let next_in_byte : let b = c.loop-k in
     Next c.args.n c.args.tree.now (numbered_of b.s b.symbols) (8 * (c.loop-j.j - 1) + (b.k - 1)) c.opening_at-in-loop-k.result = record {
       accepted = c.requires.0;
       writing = writing_at c.loop-k.invariant.0 (omega (arith, c.loop-k-test.true));
       more = λ z. c.if-s-n-2.false (omega arith);
       is_next = c.opening_at-in-loop-k.ensures ∙ ap (λ c. cond c 1 0) (read_bit c.args.tree.now (c.loop-j.j - 1) (omega arith) refl);
     } in
-    (next_written next-in-byte c.number_bracket-s-in-loop-k.ensures, omega arith)
+    (next_written next_in_byte c.number_bracket-s-in-loop-k.ensures, omega arith)
 
 pub returns : goal.returns
 returns c = all_numbered c.args.n c.args.tree.now c.requires.0 c.loop-j.invariant.0 (none_left c.loop-j.invariant.0 (omega arith))

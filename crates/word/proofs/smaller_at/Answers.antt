@@ -29,10 +29,10 @@ bounds-symbols-b c =
 
 pub returns-then-wide : goal.returns-then-wide
 returns-then-wide c =
-    let rank-at : ℕ → ℕ = λ i. get_or (string_of c.args.wide c.args.letters.now c.args.symbols.now) i 0 in
+    let rank_at : ℕ → ℕ = λ i. get_or (string_of c.args.wide c.args.letters.now c.args.symbols.now) i 0 in
     let symbols : let g = c.args in AtSymbols g.wide g.letters.now g.symbols.now g.a g.b = at_symbols c.requires c.if-wide.true in
     let t = symbols in
-    smaller_test (rank-at c.args.a) (rank-at c.args.b) (λ e. omega tests) (λ e. omega tests)
+    smaller_test (rank_at c.args.a) (rank_at c.args.b) (λ e. omega tests) (λ e. omega tests)
 
 pub bounds-letters-a : goal.bounds-letters-a
 bounds-letters-a c =
@@ -46,7 +46,7 @@ bounds-letters-b c =
 
 pub returns : goal.returns
 returns c =
-    let rank-at : ℕ → ℕ = λ i. get_or (string_of c.args.wide c.args.letters.now c.args.symbols.now) i 0 in
+    let rank_at : ℕ → ℕ = λ i. get_or (string_of c.args.wide c.args.letters.now c.args.symbols.now) i 0 in
     let letters : let g = c.args in AtLetters g.wide g.letters.now g.symbols.now g.a g.b = at_letters c.requires c.if-wide.false in
     let t = letters in
-    smaller_test (rank-at c.args.a) (rank-at c.args.b) (λ e. omega tests) (λ e. omega tests)
+    smaller_test (rank_at c.args.a) (rank_at c.args.b) (λ e. omega tests) (λ e. omega tests)

@@ -37,14 +37,14 @@ pub joined-requires-2 : goal.joined-requires-2
 joined-requires-2 c =
     let small : (k : ℕ) → get_or c.args.tree.now k 0 < 256 = λ k. omega (arith, c.shared_slice_known-1.given k) in
     let two_small : c.joined-high.result < 65536 = omega (arith, c.joined-high.ensures, small (c.args.j + 3), small (c.args.j + 2)) in
-    let three-small : c.joined.result < 16777216 = omega (arith, c.joined.ensures, two_small, small (c.args.j + 1)) in
-    three-small
+    let three_small : c.joined.result < 16777216 = omega (arith, c.joined.ensures, two_small, small (c.args.j + 1)) in
+    three_small
 
 pub returns : goal.returns
 returns c =
     let small : (k : ℕ) → get_or c.args.tree.now k 0 < 256 = λ k. omega (arith, c.shared_slice_known-1.given k) in
     let two_small : c.joined-high.result < 65536 = omega (arith, c.joined-high.ensures, small (c.args.j + 3), small (c.args.j + 2)) in
-    let three-small : c.joined.result < 16777216 = omega (arith, c.joined.ensures, two_small, small (c.args.j + 1)) in (
-      omega (arith, c.joined-2.ensures, three-small, small c.args.j),
+    let three_small : c.joined.result < 16777216 = omega (arith, c.joined.ensures, two_small, small (c.args.j + 1)) in (
+      omega (arith, c.joined-2.ensures, three_small, small c.args.j),
       rw (c.joined-2.ensures, c.joined.ensures, c.joined-high.ensures) (four c.args.tree.now c.args.j small),
     )

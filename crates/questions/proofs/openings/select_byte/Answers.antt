@@ -15,18 +15,18 @@ loop-byte-init c = record { within = c.pass_eights-passed.ensures.0; count = c.p
 
 pub returns-then-left-k : goal.returns-then-left-k
 returns-then-left-k c =
-    let in-byte : let t = c.args.tree.now in
+    let in_byte : let t = c.args.tree.now in
     openings t (8 * c.loop-byte.byte) + c.openings_in-k.result ≡ openings t (8 * c.loop-byte.byte + 8) = let t = c.args.tree.now in
     rw c.openings_in-k.ensures (counted_byte t c.loop-byte.byte (omega (arith, c.shared_slice_known-in-loop-byte-1.given c.loop-byte.byte))) in
     let v = c.loop-byte.invariant in
-    (c.loop-byte-test.true, v.count, omega (arith, in-byte, v.count))
+    (c.loop-byte-test.true, v.count, omega (arith, in_byte, v.count))
 
 pub loop-byte-preserved : goal.loop-byte-preserved
 loop-byte-preserved c =
-    let in-byte : let t = c.args.tree.now in
+    let in_byte : let t = c.args.tree.now in
     openings t (8 * c.loop-byte.byte) + c.openings_in-k.result ≡ openings t (8 * c.loop-byte.byte + 8) = let t = c.args.tree.now in
     rw c.openings_in-k.ensures (counted_byte t c.loop-byte.byte (omega (arith, c.shared_slice_known-in-loop-byte-1.given c.loop-byte.byte))) in
-    passed_bytes 1 c.loop-byte.invariant (omega (arith, c.loop-byte-test.true)) (omega (arith, in-byte)) c.if-left-k.false
+    passed_bytes 1 c.loop-byte.invariant (omega (arith, c.loop-byte-test.true)) (omega (arith, in_byte)) c.if-left-k.false
 
 pub returns : goal.returns
 returns c =

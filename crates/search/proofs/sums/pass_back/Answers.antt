@@ -41,8 +41,8 @@ falls_in-requires-in-loop-s c =
     let middle_is : c.at_start-upper.result.sum ≡ c.loop-s.s.sum -ℤ half_excess (c.wide-byte.result / 16) = c.at_start-upper.ensures.1 ∙ ap (λ h. c.loop-s.s.sum -ℤ half_excess h) (omega arith) in
     let sum_small : mag c.loop-s.s.sum ≤ 2000000 = omega arith in
     let middle_small : mag c.at_start-upper.result.sum ≤ 2000013 = start_small c.loop-s.s.sum sum_small (c.wide-byte.result / 16) middle_is in
-    let start-near : mag c.at_start-lower.result.sum ≤ 2000026 = start_small c.at_start-upper.result.sum middle_small (c.wide-byte.result % 16) c.at_start-lower.ensures.1 in
-    (omega (arith, start-near), omega arith, c.requires.1)
+    let start_near : mag c.at_start-lower.result.sum ≤ 2000026 = start_small c.at_start-upper.result.sum middle_small (c.wide-byte.result % 16) c.at_start-lower.ensures.1 in
+    (omega (arith, start_near), omega arith, c.requires.1)
 
 pub returns-then-falls_in-2 : goal.returns-then-falls_in-2
 returns-then-falls_in-2 c = c.loop-s.invariant
