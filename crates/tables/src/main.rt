@@ -1,8 +1,6 @@
 // The tables program. Its stored input is the six bytes banana.
 #![tactic(auto)]
 
-use std::io;
-
-fn main(rt: HostRuntime) -> io::Result<()> {
-    tables_text::run(&rt)
+fn main(rt: HostRuntime) {
+    tables_text::run(&rt);
 }

@@ -190,10 +190,10 @@ fn text_buffer() -> [u8; 180000]
 }
 
 // Writes to standard output what render makes of the letters. What a call on a file descriptor writes is beyond a contract.
-fn print(rt: &impl Print, letters: &[u8]) -> io::Result<()> {
+fn print(rt: &impl Print, letters: &[u8]) -> bool {
     let mut text = text_buffer();
     let n = render(letters, &mut text);
-    io::writer(rt).write_all(&text[..n])
+    io::writer(rt).write_all(&text[..n]).is_ok()
 }
 
 // Room for 2,048 letters, and for one more that tells that there are too many.
@@ -204,8 +204,8 @@ fn letter_buffer() -> [u8; 2049]
 }
 
 // The program: reads standard input up to its end, or up to 2,049 bytes, and prints the text for these letters.
-pub fn run(rt: &(impl Input + Print)) -> io::Result<()> {
+pub fn run(rt: &(impl Input + Print)) {
     let mut letters = letter_buffer();
-    let n = read_full(&mut rt.reader(), &mut letters)?;
-    print(rt, &letters[..n])
+    let n = read_full(&mut rt.reader(), &mut letters);
+    print(rt, &letters[..n]);
 }

@@ -1,7 +1,7 @@
 // The program that prints every tree of a size: line by line, put into a buffer and written to standard output.
 #![tactic(auto)]
 
-ghost use Rattle.std.specs.Prelude.{◌≡◌, ◌≤◌, length, IfOk};
+ghost use Rattle.std.specs.Prelude.{◌≡◌, ◌≤◌, length};
 ghost use Rattle.suffix.specs.Tree.{tree_length};
 ghost use Rattle.writing.specs.Writing.{Put};
 ghost use Rattle.small_trees.specs.Answers.{going_of, next_refusal};
@@ -107,27 +107,32 @@ fn line_room() -> [u8; 300]
     [0; 300]
 }
 
+// Whether the line was written.
+fn write_line(rt: &impl Print, line: &[u8]) -> bool {
+    io::writer(rt).write_all(line).is_ok()
+}
+
 // Hands one line after the other to standard output, and answers how many bytes these are. What a call on a file descriptor writes is beyond a
 // contract.
-fn print_lines(rt: &impl Print, size: usize, tree: &mut [u8], text: &mut [u8]) -> io::Result<usize>
+fn print_lines(rt: &impl Print, size: usize, tree: &mut [u8], text: &mut [u8]) -> usize
     requires { (length tree.old ≡ tree_length size) × (300 ≤ length text.old) }
-    ensures { IfOk result (λ bytes. bytes ≡ length (size_text size)) }
+    ensures { result ≡ length (size_text size) }
 {
     let mut line = begin(size, tree, text);
     let mut bytes = 0;
     loop {
         let n = line.length;
-        io::writer(rt).write_all(&text[..n])?;
+        write_line(rt, &text[..n]);
         bytes += n;
         if line.last {
-            return Ok(bytes);
+            return bytes;
         }
         line = make_line(size, tree, text);
     }
 }
 
-fn print(rt: &impl Print, input: &[u8]) -> io::Result<usize>
-    ensures { IfOk result (λ bytes. bytes ≡ length (program_text input.now)) }
+fn print(rt: &impl Print, input: &[u8]) -> usize
+    ensures { result ≡ length (program_text input.now) }
 {
     let size = size_in(input);
     let bytes = tree_length(size);
@@ -137,9 +142,8 @@ fn print(rt: &impl Print, input: &[u8]) -> io::Result<usize>
 }
 
 // The program: reads standard input up to its end, or up to 4 bytes, which are more than a size has.
-pub fn run(rt: &(impl Input + Print)) -> io::Result<()> {
+pub fn run(rt: &(impl Input + Print)) {
     let mut input = [0u8; 4];
-    let n = read_full(&mut rt.reader(), &mut input)?;
-    print(rt, &input[..n])?;
-    Ok(())
+    let n = read_full(&mut rt.reader(), &mut input);
+    print(rt, &input[..n]);
 }

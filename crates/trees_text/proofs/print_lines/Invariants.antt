@@ -6,8 +6,8 @@ use Rattle.trees_text.specs.Text.{size_text}
 use Rattle.trees_text.proofs.Running.{Running}
 use Rattle.trees_text.proofs.print_lines.Given as goal
 
-abbrev pub invariant-loop-bytes : goal.invariant-loop-bytes
-invariant-loop-bytes g l = (length l.tree ≡ length l.initial.tree) × (length l.text ≡ length l.initial.text) × Running l.size l.bytes l.line l.tree
+abbrev pub invariant-loop-line : goal.invariant-loop-line
+invariant-loop-line g l = (length l.tree ≡ length l.initial.tree) × (length l.text ≡ length l.initial.text) × Running l.size l.bytes l.line l.tree
 
-abbrev pub decreases-loop-bytes : goal.decreases-loop-bytes
-decreases-loop-bytes g l = length (size_text l.size) - l.bytes
+abbrev pub decreases-loop-line : goal.decreases-loop-line
+decreases-loop-line g l = length (size_text l.size) - l.bytes
