@@ -60,6 +60,15 @@ module _ (y claimed : List ℕ) (work : Tables) where
   unfolding check_refusal tables_refusal_of tables_refusal
   too_long_lem h = long_first (too_long (length y)) claim_off work_off (lt-ltb 1000000 (length y) h)
 
+  -- the claimed table fits, or the string is too long
+  pub same_refusal : (length y ≤ 1000000 → claim_off ≡ false) → check_refusal y claimed work ≡ tables_refusal_of y work
+  same_refusal f = go (tri (length y) 1000000)
+    where
+      go : Tri (length y) 1000000 → check_refusal y claimed work ≡ tables_refusal_of y work
+      go (lt h) = as_build (f (omega arith))
+      go (eq h) = as_build (f (omega arith))
+      go (gt h) = too_long_lem (omega arith)
+
   claimed_length : check_refusal y claimed work ≡ 0 → length claimed ≡ length y
   unfolding check_refusal
   claimed_length e =

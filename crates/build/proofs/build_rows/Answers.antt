@@ -83,7 +83,7 @@ walk-init c =
     (length y) 0 = let h = c.rows in
     let pending : c.record_entry-in-rows.new.table ≡ set h.next (h.state.rows + 1 - 1) c.args.n = c.record_entry-in-rows.ensures.0 in
     rw same (tables_are c.record_entry.ensures.0 pending c.record_entry.ensures.1 c.record_entry-in-rows.ensures.1) in
-    law.begins c.rows.invariant.0 (omega (arith, c.rows.invariant.0.most, c.if-rows-r.false)) row_recorded c.set_bit.ensures
+    law.begins c.rows.invariant.0 (omega (arith, c.rows.invariant.0.most)) row_recorded c.set_bit.ensures
 
 pub settle-pair-requires : goal.settle-pair-requires
 settle-pair-requires c =
@@ -289,5 +289,5 @@ returns c =
     let tree_long : length c.set_bit.new.tree ≡ length c.args.tree.now = c.tree-1.given ∙ c.rows.invariant.1 in
     let written : c.set_bit.new.tree ≡ take (length c.args.tree.now) (tree_bytes y (c.rows.state.rows + 1)) = law.bit_set c.rows.invariant.0 c.set_bit.ensures ∙ ap (λ k. take k (tree_bytes y (c.rows.state.rows + 1))) tree_long in
     let A = c.rows.invariant.0 in
-    let z : c.rows.state.rows + 1 ≡ c.args.rows = omega (arith, A.most, c.if-rows-r.true) in
+    let z : c.rows.state.rows + 1 ≡ c.args.rows = omega (arith, A.most) in
     record { next_match_after = rw (sym same) (law.rows_are_done A row_recorded _ z); tree_after = written ∙ ap (λ k. take (length c.args.tree.now) (tree_bytes y k)) z; rows_value = z }
