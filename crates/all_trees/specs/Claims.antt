@@ -1,4 +1,4 @@
--- What is claimed of the trees of a size, whatever the size. Each claim is a type; the law of its name, with a small letter first, proves it in
+-- What is claimed of the trees of a size, whatever the size. Each claim is a type; the law of its name, in small letters with `_`, proves it in
 -- proofs/Laws.antt.
 use Rattle.std.specs.Prelude.{◌≡◌, true, false, List, [], ℕ, zero, suc, ◌*◌, ◌<◌, length, get_or, drop}
 use Rattle.suffix.specs.Tree.{tree_length}

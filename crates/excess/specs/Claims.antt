@@ -1,4 +1,4 @@
--- What is claimed of bytes of brackets; the law of its name, with a small letter first, proves it in proofs/Halves.antt.
+-- What is claimed of bytes of brackets; the law of its name, in small letters with `_`, proves it in proofs/Halves.antt.
 use Rattle.std.specs.Prelude.{◌≡◌, ℕ, ◌/◌, ◌%◌, ◌+ℤ◌}
 use Rattle.excess.specs.Excess.{lower, byte_excess, byte_min_excess, half_excess, half_min_excess}
 

@@ -1,4 +1,4 @@
--- What is claimed of questions put to a tree; the law of its name, with a small letter first, proves it in proofs/Laws.antt.
+-- What is claimed of questions put to a tree; the law of its name, in small letters with `_`, proves it in proofs/Laws.antt.
 use Rattle.std.specs.Prelude.{◌≡◌, List, ℕ, ◌≤◌, ◌<◌, length}
 use Rattle.suffix.specs.Nearest.{previous, next}
 use Rattle.suffix.specs.Tree.{tree_bytes}

@@ -1,4 +1,4 @@
--- What is claimed of ranks (T-04). Each claim is a type; the law of its name, with a small letter first, proves it in proofs/Laws.antt.
+-- What is claimed of ranks (T-04). Each claim is a type; the law of its name, in small letters with `_`, proves it in proofs/Laws.antt.
 use Rattle.std.specs.Prelude.{◌≡◌, ◌⊎◌, List, ℕ, ◌+◌, ◌<◌, length, get_or}
 use Rattle.suffix.specs.Order.{lce}
 use Rattle.suffix.specs.Nearest.{previous, next}

@@ -1,4 +1,4 @@
--- What is claimed of runs. Each claim is a type; the law of its name, with a small letter first, proves it in proofs/Laws.antt.
+-- What is claimed of runs. Each claim is a type; the law of its name, in small letters with `_`, proves it in proofs/Laws.antt.
 use Rattle.std.specs.Prelude.{◌≡◌, ◌≢◌, ◌⊎◌, Bool, true, false, List, [], ◌∷◌, map, ℕ, ◌-◌, ◌≤◌, ◌<◌, length}
 use Rattle.ranks.specs.Ranks.{ranks, oriented_from}
 use Rattle.repeats.specs.Runs.{Run, IsRun, is_run}

@@ -1,4 +1,4 @@
--- Which strings are answered alike. Each claim is a type; the law of its name, with a small letter first, proves it in proofs/Laws.antt.
+-- Which strings are answered alike. Each claim is a type; the law of its name, in small letters with `_`, proves it in proofs/Laws.antt.
 use Rattle.std.specs.Prelude.{◌≡◌, true, false, List, [], ℕ}
 use Rattle.suffix.specs.Rows.{Tables}
 use Rattle.ranks.specs.Ranks.{ranks, string_of}

@@ -1,4 +1,4 @@
--- What is claimed of the reuse steps. Each claim is a type; the law of its name, with a small letter first, proves it in proofs/Laws.antt.
+-- What is claimed of the reuse steps. Each claim is a type; the law of its name, in small letters with `_`, proves it in proofs/Laws.antt.
 use Rattle.std.specs.Prelude.{◌≡◌, ◌⊎◌, List, ℕ, ◌+◌, ◌-◌, ◌*◌, ◌≤◌, ◌<◌, length, get_or}
 use Rattle.suffix.specs.Rows.{Tables, tables_after, reach}
 use Rattle.reuse.specs.Steps.{Progress, asked, ended, advances, row_start, row, after_rows, equal_comparisons, unequal_comparisons, comparisons}

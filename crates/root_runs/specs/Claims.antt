@@ -1,4 +1,4 @@
--- What is claimed of the report of a place. The claim is a type; the law of its name, with a small letter first, proves it in
+-- What is claimed of the report of a place. The claim is a type; the law of its name, in small letters with `_`, proves it in
 -- proofs/Laws.antt.
 use Rattle.std.specs.Prelude.{◌≡◌, List, ℕ, ◌≤◌, length}
 use Rattle.repeats.specs.Gathered.{report_of}

@@ -1,4 +1,4 @@
--- What is claimed of a list of runs in three tables. Each claim is a type; the law of its name, with a small letter first, proves it in
+-- What is claimed of a list of runs in three tables. Each claim is a type; the law of its name, in small letters with `_`, proves it in
 -- proofs/Laws.antt.
 use Rattle.std.specs.Prelude.{◌≡◌, ◌≢◌, ◌⊎◌, ℕ, ◌<◌, get_or}
 use Rattle.repeats.specs.Runs.{Run}

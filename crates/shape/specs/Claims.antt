@@ -1,4 +1,4 @@
--- What is claimed of trees. Each claim is a type; the law of its name, with a small letter first, proves it
+-- What is claimed of trees. Each claim is a type; the law of its name, in small letters with `_`, proves it
 -- in proofs/Laws.antt.
 use Rattle.std.specs.Prelude.{◌≡◌, true, false, List, ℕ, ◌≤◌, ◌<◌, eqb, length, get_or}
 use Rattle.suffix.specs.Search.{tabulate}

@@ -1,4 +1,4 @@
--- What is claimed of the definitions. Each claim is a type; the law of its name, with a small letter first, proves it in proofs/Laws.antt.
+-- What is claimed of the definitions. Each claim is a type; the law of its name, in small letters with `_`, proves it in proofs/Laws.antt.
 use Rattle.std.specs.Prelude.{◌≡◌, ◌≢◌, ◌⊎◌, true, false, List, ℕ, suc, ◌+◌, ◌-◌, ◌*◌, ◌≤◌, ◌<◌, ltb, length, get_or}
 use Rattle.suffix.specs.Search.{tabulate}
 use Rattle.suffix.specs.Order.{lex_less, suffix_less, lce}

@@ -1,4 +1,4 @@
--- What is claimed of the string of a tree. Each claim is a type; the law of its name, with a small letter first, proves it in
+-- What is claimed of the string of a tree. Each claim is a type; the law of its name, in small letters with `_`, proves it in
 -- proofs/Laws.antt.
 use Rattle.std.specs.Prelude.{◌≡◌, List, ℕ, ◌<◌, length, get_or, replicate}
 use Rattle.suffix.specs.Search.{tabulate}

@@ -1,4 +1,4 @@
--- What is claimed of the program's text. Each claim is a type; the law of its name, with a small letter first, proves it in proofs/Laws.antt.
+-- What is claimed of the program's text. Each claim is a type; the law of its name, in small letters with `_`, proves it in proofs/Laws.antt.
 use Rattle.std.specs.Prelude.{◌≡◌, Bool, true, false, List, [], ◌++◌, ℕ, zero, suc, ◌≤◌, length, take}
 use Rattle.suffix.specs.Tree.{tree_length}
 use Rattle.all_trees.specs.Trees.{trees_of}
