@@ -10,47 +10,47 @@ ghost use Rattle.brackets.specs.Answers.{ReadBack};
 ghost use Rattle.brackets.specs.Steps.{filled_of, bracket_filled, Fillable};
 
 use excess::{bit, is_open};
-use refusal::{Refusal, Verdict};
+use refusal::Refusal;
 use suffix::tree_length;
 
+#[tactic(auto, using(crate::proofs::Spare::no_spare_bits, crate::proofs::Spare::spare_last))]
 fn spare_bit_set(n: usize, tree: &[u8]) -> bool
     requires { (n ≤ 1000000) × (length tree.now ≡ tree_length n) }
     ensures { result ≡ spare_bit_set n tree.now }
 {
     let over = n % 4;
-    if over == 0 {
-        return false;
-    }
-    (tree[n / 4] >> ((2 * over) as u8)) != 0
+    over != 0 && tree[n / 4] >> ((2 * over) as u8) != 0
 }
 
 // What whoever wrote the tree got wrong: 6, 7 or 8.
-fn flaw(n: usize, tree: &[u8]) -> Verdict
+#[tactic(auto, using(shape::proofs::Conditions::flaw_6, crate::proofs::Whole::flaw_fell, crate::proofs::Whole::flaw_closed, crate::proofs::Whole::flaw_open))]
+fn flaw(n: usize, tree: &[u8]) -> Result<(), Refusal>
     requires { (n ≤ 1000000) × (length tree.now ≡ tree_length n) }
     ensures { verdict_number result ≡ flaw_number n tree.now }
 {
     if spare_bit_set(n, tree) {
-        return Verdict::Refused(Refusal::SpareBitSet);
+        return Err(Refusal::SpareBitSet);
     }
     let found = search::forward(tree, 0, 2 * n);
     if found.fell {
-        return Verdict::Refused(Refusal::ClosedTooEarly);
+        return Err(Refusal::ClosedTooEarly);
     }
     if found.closed {
-        return Verdict::Accepted;
+        return Ok(());
     }
-    Verdict::Refused(Refusal::LeftOpen)
+    Err(Refusal::LeftOpen)
 }
 
 // Whether the bytes are a tree of n positions: refusals 1, 3, 6, 7, 8.
-pub fn verdict_on(n: usize, tree: &[u8]) -> Verdict
+#[tactic(auto, using(shape::proofs::Conditions::tree_1, shape::proofs::Conditions::tree_3, shape::proofs::Conditions::tree_flaw))]
+pub fn verdict_on(n: usize, tree: &[u8]) -> Result<(), Refusal>
     ensures { verdict_number result ≡ tree_refusal n tree.now }
 {
     if n > 1000000 {
-        return Verdict::Refused(Refusal::TooLong);
+        return Err(Refusal::TooLong);
     }
     if tree.len() != tree_length(n) {
-        return Verdict::Refused(Refusal::TreeLength);
+        return Err(Refusal::TreeLength);
     }
     flaw(n, tree)
 }
@@ -92,47 +92,32 @@ fn fill_tables(n: usize, tree: &[u8], previous: &mut [u32], next: &mut [u32])
         top: n as u32,
         count: 0,
     };
-    let mut j = 0;
-    while j < n / 4 {
-        let byte = tree[j];
-        let mut m = 0;
-        while m < 8 {
+    for &byte in &tree[..n / 4] {
+        for m in 0..8 {
             s = fill_bracket(bit(byte, m), s, previous, next);
-            m += 1;
         }
-        j += 1;
     }
-    let mut k = 8 * (n / 4);
-    while k < 2 * n {
+    for k in 8 * (n / 4)..2 * n {
         s = fill_bracket(is_open(tree, k), s, previous, next);
-        k += 1;
     }
 }
 
 // Reads a tree of n positions into its two tables: refusals 1, 2, 3, 6, 7, 8.
-pub fn read(n: usize, tree: &[u8], previous: &mut [u32], next: &mut [u32]) -> Verdict
+pub fn read(n: usize, tree: &[u8], previous: &mut [u32], next: &mut [u32]) -> Result<(), Refusal>
     ensures { ReadBack n tree.now (record { previous = previous.old; next = next.old })
         (record { previous = previous.new; next = next.new })
         (verdict_number result) }
 {
     if n > 1000000 {
-        return Verdict::Refused(Refusal::TooLong);
+        return Err(Refusal::TooLong);
     }
-    if previous.len() != n {
-        return Verdict::Refused(Refusal::TableLength);
-    }
-    if next.len() != n {
-        return Verdict::Refused(Refusal::TableLength);
+    if previous.len() != n || next.len() != n {
+        return Err(Refusal::TableLength);
     }
     if tree.len() != tree_length(n) {
-        return Verdict::Refused(Refusal::TreeLength);
+        return Err(Refusal::TreeLength);
     }
-    let found = flaw(n, tree);
-    match found {
-        Verdict::Refused(_) => found,
-        Verdict::Accepted => {
-            fill_tables(n, tree, previous, next);
-            Verdict::Accepted
-        }
-    }
+    flaw(n, tree)?;
+    fill_tables(n, tree, previous, next);
+    Ok(())
 }

@@ -9,7 +9,7 @@ use Rattle.entries.specs.Cleared.{cleared_from}
 use Rattle.entries.proofs.Clearing.{cleared_all, cleared_none, cleared_set, cleared_more, cleared_same}
 use Rattle.reuse.specs.Steps.{record_previous, record_next}
 use Rattle.outcome.specs.Built.{tables_of}
-use Rattle.build.specs.States.{cleared_tables}
+use Rattle.entries.specs.Lent.{cleared_tables}
 
 module _ (n : ℕ) (t : Tables) where
   pub next_recorded : (k l r m : ℕ) → l < k → cleared_tables n k (record_next t l r m) ≡ record_next (cleared_tables n k t) l r m
@@ -39,8 +39,3 @@ none_left n t a b c d = rw (past t.previous n a, past t.next n b, past t.previou
   where
     past : (l : List ℕ) (v : ℕ) → length l ≡ n → cleared_from n v l ≡ l
     past l v e = cleared_none n v l (omega arith)
-
--- each table is cleared from k on, which is r: entries to v, which is n, and matches to 0
-pub tables_cleared : {k v r n : ℕ} (t : Tables) {p x a b : List ℕ} → p ≡ cleared_from k v t.previous → x ≡ cleared_from k v t.next → a ≡ cleared_from k 0 t.previous_match
-    → b ≡ cleared_from k 0 t.next_match → k ≡ r → v ≡ n → tables_of p x a b ≡ cleared_tables n r t
-tables_cleared t e f g h i j = rw (e, f, g, h, i, j)

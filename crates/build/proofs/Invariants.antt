@@ -2,7 +2,7 @@
 use mathlib.Core.Path.{◌≡◌, refl, sym, ap, ap₂, ◌∙◌}
 use mathlib.Core.Logic.{◌≢◌, ◌⊎◌, inl, inr}
 use mathlib.Core.Bool.{Bool, true, false}
-use mathlib.Core.List.{List, []}
+use mathlib.Core.List.{List}
 use Prim.Native.Nat.{ℕ, suc, ◌+◌, ◌-◌, ◌/◌, ◌%◌, ◌^◌, ◌≤◌, ◌<◌}
 use native.Mathlib.Omega.{arith}
 use mir.Syntax.{w64}
@@ -26,9 +26,10 @@ use Rattle.reuse.proofs.Row.{Sizes, next_sizes, previous_sizes, AtSettled, Done,
 use Rattle.reuse.proofs.Exact.{rows_done}
 use Rattle.build.specs.declared.State.{State}
 use Rattle.build.specs.declared.SettledPair as declared
-use Rattle.build.specs.States.{progress_of, pair_of, cleared_tables, build_state, Safe, settled_from}
+use Rattle.build.specs.States.{progress_of, pair_of, build_state, Safe, settled_from}
 use Rattle.outcome.specs.Built.{tables_of}
 use Rattle.entries.specs.Cleared.{cleared_from}
+use Rattle.entries.specs.Lent.{cleared_tables, AreOf}
 use Rattle.entries.proofs.Clearing.{cleared_length, cleared_get}
 use Rattle.build.proofs.Clearing.{next_recorded, row_recorded, previous_none, all_cleared}
 use Rattle.build.proofs.Parts.{replicate_part, part_room, part_raised}
@@ -79,6 +80,29 @@ sizes_of y k t S =
       previous_match = sym (cleared_length k 0 t.previous_match) ∙ S.previous_match;
       next_match = sym (cleared_length k 0 t.next_match) ∙ S.next_match;
     }
+
+-- tables of n entries, for a string of n letters
+pub sizes_are : {y : List ℕ} {n : ℕ} {t : Tables} → length y ≡ n → AreOf n t → Sizes y t
+sizes_are e A = record { previous = A.previous ∙ sym e; next = A.next ∙ sym e; previous_match = A.previous_match ∙ sym e; next_match = A.next_match ∙ sym e }
+
+pub are_sizes : {y : List ℕ} {n : ℕ} {t : Tables} → length y ≡ n → Sizes y t → AreOf n t
+are_sizes e S = record { previous = S.previous ∙ e; next = S.next ∙ e; previous_match = S.previous_match ∙ e; next_match = S.next_match ∙ e }
+
+-- next[l] is recorded with its match
+pub next_is : (t : Tables) (l r m : ℕ) {x v : List ℕ} → x ≡ set t.next l r → v ≡ set t.next_match l m
+    → record { previous = t.previous; next = x; previous_match = t.previous_match; next_match = v } ≡ record_next t l r m
+unfolding record_next
+next_is t l r m e f = rw (e, f)
+
+-- the row's entries are recorded
+pub row_is : (t : Tables) (i p v n : ℕ) {a x b z : List ℕ} → a ≡ set t.previous i p → x ≡ set t.next i n → b ≡ set t.previous_match i v → z ≡ set t.next_match i 0
+    → record { previous = a; next = x; previous_match = b; next_match = z } ≡ record_next (record_previous t i p v) i n 0
+unfolding record_previous record_next
+row_is t i p v n e f h k = rw (e, f, h, k)
+
+-- a position that is not the length of the string
+pub not_none : {p n m : ℕ} → m ≡ n → p ≢ n → p ≢ m
+not_none e f q = f (q ∙ e)
 
 at_rows : (y : List ℕ) (rows r : ℕ) (s : State) (t : Tables) (p v : ℕ) (tree : List ℕ) (bit : ℕ) → r < rows → rows ≤ length y → s.rows ≡ r + 1
     → build_state s (record_previous (cleared_tables (length y) r t) r p v) ≡ after_rows y (suc r) → p ≤ length y → v ≤ length y → Sizes y t → tree ≡ take (length tree) (tree_bytes y r)
@@ -209,7 +233,7 @@ module _ {y : List ℕ} {rows r : ℕ} {s : State} {t : Tables} {tree : List ℕ
 
   -- (l, r) is settled as u
   pub record Settled (u : declared.SettledPair) : Type 0 where
-    pub pair : pair_of u ≡ settled_from known y (progress_of s) (tables_of [] t.next t.previous_match t.next_match) l r m
+    pub pair : pair_of u ≡ settled_from known y (progress_of s) t l r m
     pub rows_stay : u.state.rows ≡ s.rows
 
   module _ {u : declared.SettledPair} (E : Settled u) where

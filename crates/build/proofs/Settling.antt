@@ -2,82 +2,59 @@
 use mathlib.Core.Path.{◌≡◌, refl, sym, ap, ◌∙◌}
 use mathlib.Core.Logic.{◌≢◌}
 use mathlib.Core.Bool.{Bool, true, false}
-use mathlib.Core.List.{List, []}
+use mathlib.Core.List.{List}
 use Prim.Native.Nat.{ℕ, suc, ◌+◌, ◌-◌, ◌≤◌, ◌<◌}
 use native.Mathlib.Numerals.{add-one}
 use native.Mathlib.Omega.{arith}
-use lib.Dec.{ltb}
 use lib.ListN.{length, get_or}
 use Rattle.suffix.proofs.Cases.{Tri, lt, eq, gt, tri, Same, same, other, same?}
 use Rattle.suffix.specs.Rows.{Tables}
-use Rattle.reuse.specs.Steps.{Progress, ScanReport, SettledPair, scan, scan_from, reuse, settle}
+use Rattle.reuse.specs.Steps.{Progress, scan, scan_from, reuse, settle}
 use Rattle.reuse.proofs.Scan.{scan_equal, scan_unequal}
 use Rattle.reuse.proofs.Settle.{settle_scan, settle_by_next, settle_by_previous}
-use Rattle.build.specs.States.{unequal_at, Scanned, cleared_tables, settled_from}
-use Rattle.outcome.specs.Built.{tables_of}
+use Rattle.build.specs.States.{unequal_at, Scanned, settled_from}
+use Rattle.entries.specs.Lent.{cleared_tables}
 use Rattle.entries.proofs.Clearing.{cleared_get}
 
--- two pairs with equal numbers
-pub same_pair : {reach shift equal unequal m reach' shift' equal' unequal' m' : ℕ} {b : Bool} → reach ≡ reach' → shift ≡ shift' → equal ≡ equal' → unequal ≡ unequal' → m ≡ m'
-    → ◌≡◌ {A = SettledPair} (record { progress = record { reach = reach; shift = shift; equal = equal; unequal = unequal }; match = m; left_smaller = b })
-    (record { progress = record { reach = reach'; shift = shift'; equal = equal'; unequal = unequal' }; match = m'; left_smaller = b })
-same_pair p q v w x = rw (p, q, v, w, x)
+-- ---- a scan of (l, r) from a match on, with so many comparisons made before
 
--- a test as a number
-abbrev pub numeral : Bool → ℕ
-numeral true = 1
-numeral false = 0
+module _ (y : List ℕ) (l r from equal unequal : ℕ) where
+  -- it stands at m, and each comparison found two letters equal: what is left of it is the whole
+  pub record Scanning (m : ℕ) : Type 0 where
+    pub inside : r + m ≤ length y
+    pub after : from ≤ m
+    pub is : scan y l r from (length y - (r + from)) equal unequal ≡ scan y l r m (length y - (r + m)) (equal + (m - from)) unequal
 
-is_false : (b : Bool) → numeral b ≡ 0 → b ≡ false
-is_false true e = absurd (omega arith)
-is_false false e = refl
+  pub scan_starts : r + from ≤ length y → Scanning from
+  scan_starts h =
+      let z : equal + (from - from) ≡ equal = omega arith in
+      record { inside = h; after = omega arith; is = rw z }
 
--- the report of a scan that stops at unequal ranks, by what is told of it
-pub reports_unequal : (a b m equal unequal : ℕ) {x y k i j : ℕ} → x ≡ a → y ≡ b → k ≡ m → i ≡ equal → j ≡ unequal + 1
-    → record { match = k; left_smaller = ltb x y; equal = i; unequal = j } ≡ unequal_at a b m equal unequal
-reports_unequal a b m equal unequal p q r v w = rw (p, q, r, v, w)
-
--- ---- a scan from m on in a string of n letters or symbols, with so many comparisons made before
-
-module _ (n : ℕ) (y : List ℕ) (l r from equal unequal : ℕ) where
-  -- it stands at m, with so many found equal: what is left of it is the whole
-  pub record Scanning (m equals : ℕ) : Type 0 where
-    pub long : length y ≡ n
-    pub inside : r + m ≤ n
-    pub counts : equals + from ≡ equal + m
-    pub is : scan y l r from (length y - (r + from)) equal unequal ≡ scan y l r m (length y - (r + m)) equals unequal
-
-  pub scan_starts : length y ≡ n → r + from ≤ n → Scanning from equal
-  scan_starts e h = record { long = e; inside = h; counts = refl; is = refl }
-
-  module _ {m equals : ℕ} (S : Scanning m equals) where
-    pub scan_ends : n ≤ r + m → {b : Bool} {k i j : ℕ} → k ≡ m → numeral b ≡ 0 → i ≡ equals → j ≡ unequal
-        → Scanned y n l r from equal unequal (record { match = k; left_smaller = b; equal = i; unequal = j })
+  module _ {m : ℕ} (S : Scanning m) where
+    pub scan_ends : length y ≤ r + m → Scanned y l r from equal unequal (record { match = m; left_smaller = false; equal = equal + (m - from); unequal = unequal })
     unfolding scan
-    scan_ends h {b} d e p q =
-        let z : length y - (r + m) ≡ 0 = omega (arith, S.long) in
-        record { reports = rw (d, is_false b e, p, q) (sym (S.is ∙ rw z)); fits = omega (arith, S.inside) }
+    scan_ends h = let z : length y - (r + m) ≡ 0 = omega arith in record { reports = sym (S.is ∙ rw z); fits = S.inside }
 
-    -- the ranks that are compared
-    module _ (h : r + m < n) (a b : ℕ) (p : a ≡ get_or y (l + m) 0) (q : b ≡ get_or y (r + m) 0) where
+    module _ (h : r + m < length y) where
       left : length y - (r + m) ≡ suc (length y - (r + (m + 1)))
-      left = omega (arith, S.long)
+      left = omega arith
 
-      pub scan_goes : a ≡ b → {k i : ℕ} → k ≡ m + 1 → i ≡ equals + 1 → Scanning k i
-      scan_goes e u w =
-          rw u
-          (record {
-            long = S.long;
+      pub scan_goes : get_or y (l + m) 0 ≡ get_or y (r + m) 0 → Scanning (m + 1)
+      scan_goes e =
+          let z : equal + (m + 1 - from) ≡ suc (equal + (m - from)) = omega (arith, S.after) in
+          record {
             inside = omega arith;
-            counts = omega (arith, S.counts);
-            is = S.is ∙ rw (left, w) (scan_equal y l r m (length y - (r + (m + 1))) equals unequal (sym p ∙ e ∙ q) ∙ rw (add-one m, add-one equals));
-          })
+            after = omega (arith, S.after);
+            is = S.is ∙ rw left (scan_equal y l r m (length y - (r + (m + 1))) (equal + (m - from)) unequal e ∙ rw (z, add-one m));
+          }
 
-      pub scan_stops : a ≢ b → {k i : ℕ} {u : ScanReport} → u ≡ unequal_at a b k i unequal → k ≡ m → i ≡ equals → Scanned y n l r from equal unequal u
-      scan_stops e {u = u} v d w =
-          let z : u ≡ scan y l r from (length y - (r + from)) equal unequal =
-          v ∙ rw (d, w, p, q) (sym (S.is ∙ rw (left, add-one unequal) (scan_unequal y l r m (length y - (r + (m + 1))) equals unequal (λ z. e (p ∙ z ∙ sym q))))) in
-          record { reports = z; fits = omega (arith, ap (λ (t : ScanReport). t.match) v, d, h) }
+      pub scan_stops : get_or y (l + m) 0 ≢ get_or y (r + m) 0
+          → Scanned y l r from equal unequal (unequal_at (get_or y (l + m) 0) (get_or y (r + m) 0) m (equal + (m - from)) unequal)
+      scan_stops e =
+          record {
+            reports = sym (S.is ∙ rw left (scan_unequal y l r m (length y - (r + (m + 1))) (equal + (m - from)) unequal e ∙ rw (add-one unequal)));
+            fits = S.inside;
+          }
 
 -- ---- a pair of which nothing is known: x is next[l - d], and v the match that is recorded
 
@@ -112,10 +89,10 @@ same_reads y s t u l r m h = go (tri (r + m) s.reach)
 
 -- none of them a previous entry, and none from r on
 pub reads_before : (known : Bool) (y : List ℕ) (s : Progress) (n : ℕ) (t : Tables) (l r m : ℕ) → l < r → (known ≡ false → r + m < s.reach → 0 < s.shift)
-    → settled_from known y s (tables_of [] t.next t.previous_match t.next_match) l r m ≡ settled_from known y s (cleared_tables n r t) l r m
+    → settled_from known y s t l r m ≡ settled_from known y s (cleared_tables n r t) l r m
 reads_before true y s n t l r m h d = refl
 reads_before false y s n t l r m h d =
-    same_reads y s (tables_of [] t.next t.previous_match t.next_match) (cleared_tables n r t) l r m
+    same_reads y s t (cleared_tables n r t) l r m
     (λ w. (
       sym (cleared_get r n (l - s.shift) t.next (omega arith)),
       sym (cleared_get r 0 (l - s.shift) t.next_match (omega arith)),

@@ -1,20 +1,18 @@
 -- What the contracts of the private functions are written with: the code's values as those of the reuse steps.
 use Rattle.std.specs.Prelude.{◌≡◌, Bool, true, false, List, ℕ, ◌+◌, ◌-◌, ◌≤◌, ◌<◌, ltb, length}
 use Rattle.suffix.specs.Rows.{Tables}
-use Rattle.ranks.specs.Ranks.{string_of, oriented}
-use Rattle.entries.specs.Cleared.{cleared_from}
 use Rattle.reuse.specs.Steps.{Progress, BuildState, ScanReport, SettledPair, scan, settle}
 use Rattle.build.specs.declared.State.{State}
 use Rattle.build.specs.declared.ScanReport as declared_report
 use Rattle.build.specs.declared.SettledPair as declared
-use Rattle.outcome.specs.Built.{tables_of}
-
--- the string that the rows are of, in the order of its ranks or in its reverse
-abbrev pub oriented_string : (wide reverse : Bool) → (letters symbols : List ℕ) → List ℕ
-oriented_string wide reverse letters symbols = oriented reverse (string_of wide letters symbols)
+use Rattle.outcome.specs.declared.Report.{Report}
 
 abbrev pub progress_of : State → Progress
 progress_of s = record { reach = s.reach; shift = s.shift; equal = s.equal; unequal = s.unequal }
+
+-- the figures that a build reports
+abbrev pub figures_in : State → Report
+figures_in s = record { rows = s.rows; equal = s.equal; unequal = s.unequal; reach = s.reach }
 
 abbrev pub report_of : declared_report.ScanReport → ScanReport
 report_of u = record { match = u.matched; left_smaller = u.left_smaller; equal = u.equal; unequal = u.unequal }
@@ -26,19 +24,15 @@ pair_of u = record { progress = progress_of u.state; match = u.matched; left_sma
 abbrev pub unequal_at : (a b m equal unequal : ℕ) → ScanReport
 unequal_at a b m equal unequal = record { match = m; left_smaller = ltb a b; equal = equal; unequal = unequal + 1 }
 
--- what a scan of (l, r) from m reports, in a string of n letters or symbols
-pub record Scanned (y : List ℕ) (n l r m equal unequal : ℕ) (u : ScanReport) : Type 0 where
+-- what a scan of (l, r) from m reports
+pub record Scanned (y : List ℕ) (l r m equal unequal : ℕ) (u : ScanReport) : Type 0 where
   pub reports : u ≡ scan y l r m (length y - (r + m)) equal unequal
-  pub fits : r + u.match ≤ n
-
--- tables for n letters or symbols with none and match 0 for every position from k on
-abbrev pub cleared_tables : ℕ → ℕ → Tables → Tables
-cleared_tables n k t = tables_of (cleared_from k n t.previous) (cleared_from k n t.next) (cleared_from k 0 t.previous_match) (cleared_from k 0 t.next_match)
+  pub fits : r + u.match ≤ length y
 
 abbrev pub build_state : State → Tables → BuildState
 build_state s t = record { progress = progress_of s; tables = t }
 
--- what is asked where (l, r) is settled from m, in a string of n letters or symbols: each place is in the string, and the counts fit
+-- what is asked where (l, r) is settled from m, in a string of n letters: each place is in the string, and the counts fit
 pub record Safe (n : ℕ) (s : Progress) (l r m : ℕ) : Type 0 where
   pub before : l < r
   pub small : r < n

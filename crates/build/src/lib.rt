@@ -1,18 +1,18 @@
-// The build: from a string to four tables and a tree, in a given number of rows; and to the four tables alone, in either order. A string is of
-// letters, or where `wide` is true of symbols; the slice that it is not of is not read.
+// The build: from a string to four tables and a tree, in a given number of rows; and to the four tables alone, in either order.
 #![tactic(auto)]
 
-ghost use Rattle.std.specs.Prelude.{◌≡◌, false, [], ◌+◌, ◌-◌, ◌/◌, ◌%◌, ◌^◌, ◌≤◌, ◌<◌, length, get_or, set, take, replicate};
+ghost use Rattle.std.specs.Prelude.{◌≡◌, false, ◌+◌, ◌-◌, ◌/◌, ◌%◌, ◌^◌, ◌≤◌, ◌<◌, length, get_or, set, take, replicate, map};
 ghost use Rattle.suffix.specs.Tree.{tree_length, tree_bytes};
-ghost use Rattle.ranks.specs.Ranks.{ranks, string_of, oriented, oriented_rank};
+ghost use Rattle.ranks.specs.Ranks.{oriented, oriented_rank};
+ghost use Rattle.entries.specs.Lent.{tables_in, cleared_tables, AreOf, SameLent};
 ghost use Rattle.reuse.specs.Steps.{scanned, after_rows};
-ghost use Rattle.outcome.specs.Built.{tables_of, lent, figures_of, BuiltExactly, TablesBuilt};
-ghost use Rattle.build.specs.States.{oriented_string, progress_of, report_of, pair_of, unequal_at, Scanned, cleared_tables, build_state, Safe, settled_from};
+ghost use Rattle.outcome.specs.Built.{figures_of, BuiltExactly, TablesBuilt};
+ghost use Rattle.build.specs.States.{progress_of, report_of, pair_of, unequal_at, figures_in, Scanned, build_state, Safe, settled_from};
 
-use entries::{clear_bytes, clear_tables};
-use outcome::{Built, answer};
-use ranks::{orient, rank};
-use refusal::Verdict;
+use entries::{Tables, clear_bytes};
+use outcome::{Built, Report, answer};
+use ranks::{Letter, orient, rank_at, same_at};
+use refusal::{Refusal, build_verdict, tables_verdict};
 
 // The state of a build: reach c, shift d, the rows that are recorded, and the comparisons made that found two letters equal,
 // and unequal.
@@ -42,20 +42,6 @@ struct SettledPair {
     left_smaller: bool,
 }
 
-// An entry as an index.
-fn index(x: u32) -> usize
-    ensures { (result ≡ x) × (result < 4294967296) }
-{
-    x as usize
-}
-
-fn read(table: &[u32], i: usize) -> usize
-    requires { i < length table.now }
-    ensures { (result ≡ get_or table.now i 0) × (result < 4294967296) }
-{
-    index(table[i])
-}
-
 // table[i] = value with match m.
 fn record_entry(table: &mut [u32], matches: &mut [u32], i: usize, value: usize, m: usize)
     requires { (i < length table.old) × (i < length matches.old) × (value ≤ 1000000) × (m ≤ 1000000) }
@@ -80,117 +66,43 @@ fn differs(a: u32, b: u32, reverse: bool, m: usize, equal: usize, unequal: usize
     }
 }
 
-// Step 1 for a string of n letters: compares those at l + m and r + m, raising m while they are equal. `equal` and `unequal` count the comparisons
-// made so far.
-fn scan_letters(
-    letters: &[u8],
+// Step 1: compares the letters at l + m and r + m, raising m while they are equal. `equal` and `unequal` count the comparisons made so far.
+fn scan<S: Letter>(
+    string: &[S],
     reverse: bool,
-    n: usize,
     l: usize,
     r: usize,
     from: usize,
     equal: usize,
     unequal: usize,
 ) -> ScanReport
-    requires { (length letters.now ≡ n) × (n ≤ 1000000) × (l < r) × (r + from ≤ n) × (equal ≤ 1000000) × (unequal ≤ 2000000) }
-    ensures { Scanned (oriented reverse (ranks letters.now)) n l r from equal unequal (report_of result) }
+    requires { (length string.now ≤ 1000000) × (l < r) × (r + from ≤ length string.now) × (equal ≤ 1000000) × (unequal ≤ 2000000) }
+    ensures { Scanned (oriented reverse (map S.rank string.now)) l r from equal unequal (report_of result) }
 {
-    let mut m = from;
-    let mut equals = equal;
-    while r + m < n {
-        let x = letters[l + m];
-        let y = letters[r + m];
-        // equal letters have equal ranks
-        if x != y {
-            let a = rank(x);
-            let b = rank(y);
-            if a != b {
-                return differs(a, b, reverse, m, equals, unequal);
-            }
+    let most = string.len() - r;
+    for m in from..most {
+        if !same_at(string, l + m, r + m) {
+            let left = rank_at(string, l + m);
+            let right = rank_at(string, r + m);
+            return differs(left, right, reverse, m, equal + (m - from), unequal);
         }
-        equals += 1;
-        m += 1;
     }
-    // at n, the suffix at r is the smaller
+    // at the end, the suffix at r is the smaller
     let left_smaller = false;
     ScanReport {
-        matched: m,
+        matched: most,
         left_smaller,
-        equal: equals,
+        equal: equal + (most - from),
         unequal,
     }
-}
-
-// The same of symbols, which are their own ranks. The first comparison, at which scans of varied symbols stop, stands before the loop.
-fn scan_symbols(
-    symbols: &[u32],
-    reverse: bool,
-    n: usize,
-    l: usize,
-    r: usize,
-    from: usize,
-    equal: usize,
-    unequal: usize,
-) -> ScanReport
-    requires { (length symbols.now ≡ n) × (n ≤ 1000000) × (l < r) × (r + from ≤ n) × (equal ≤ 1000000) × (unequal ≤ 2000000) }
-    ensures { Scanned (oriented reverse symbols.now) n l r from equal unequal (report_of result) }
-{
-    let mut m = from;
-    let mut alike = equal;
-    if r + m < n {
-        let first = symbols[l + m];
-        let other = symbols[r + m];
-        if first != other {
-            return differs(first, other, reverse, m, alike, unequal);
-        }
-        alike += 1;
-        m += 1;
-    }
-    while m < n - r {
-        let x = symbols[l + m];
-        let y = symbols[r + m];
-        if x != y {
-            return differs(x, y, reverse, m, alike, unequal);
-        }
-        alike += 1;
-        m += 1;
-    }
-    ScanReport {
-        matched: m,
-        left_smaller: false,
-        equal: alike,
-        unequal,
-    }
-}
-
-// The scan of a string of either width: in the rows the two are told apart here alone.
-fn scan(
-    letters: &[u8],
-    symbols: &[u32],
-    wide: bool,
-    reverse: bool,
-    n: usize,
-    l: usize,
-    r: usize,
-    from: usize,
-    equal: usize,
-    unequal: usize,
-) -> ScanReport
-    requires { (length (string_of wide letters.now symbols.now) ≡ n) × (n ≤ 1000000) × (l < r) × (r + from ≤ n) × (equal ≤ 1000000) × (unequal ≤ 2000000) }
-    ensures { Scanned (oriented_string wide reverse letters.now symbols.now) n l r from equal unequal (report_of result) }
-{
-    if wide {
-        return scan_symbols(symbols, reverse, n, l, r, from, equal, unequal);
-    }
-    scan_letters(letters, reverse, n, l, r, from, equal, unequal)
 }
 
 impl State {
     // What a scan of (l, r) leaves.
     fn stop(mut self, l: usize, r: usize, report: ScanReport) -> SettledPair
         requires { (l < r) × (r + report.matched ≤ 1000000) }
-        ensures result_value { pair_of result ≡ scanned l r (report_of report) }
-        ensures rows_value { result.state.rows ≡ self.rows }
+        ensures stopped { pair_of result ≡ scanned l r (report_of report) }
+        ensures rows { result.state.rows ≡ self.rows }
     {
         self.shift = r - l;
         self.reach = r + report.matched;
@@ -205,31 +117,22 @@ impl State {
 
     // Steps 1 and 2: settles (l, r) from m, unless it is known to have match m and the smaller suffix at r: so it is called
     // at one place, and inlined there. No previous entry is read.
-    fn settle(
+    fn settle<S: Letter>(
         self,
-        letters: &[u8],
-        symbols: &[u32],
-        wide: bool,
+        string: &[S],
         reverse: bool,
-        n: usize,
-        next: &[u32],
-        previous_match: &[u32],
-        next_match: &[u32],
+        tables: &Tables,
         l: usize,
         r: usize,
         m: usize,
         known: bool,
     ) -> SettledPair
-        requires symbols_len { (length (string_of wide letters.now symbols.now) ≡ n) × (n ≤ 1000000) }
-        requires next_len { (length next.now ≡ n) × (length previous_match.now ≡ n) × (length next_match.now ≡ n) }
-        requires safe { known ≡ false → Safe n (progress_of self) l r m }
-        ensures result_value { pair_of result
-            ≡ settled_from known (oriented_string wide reverse letters.now symbols.now) (progress_of self)
-            (tables_of [] next.now previous_match.now next_match.now)
-            l
-            r
-            m }
-        ensures rows_value { result.state.rows ≡ self.rows }
+        requires few { length string.now ≤ 1000000 }
+        requires long { AreOf (length string.now) (tables_in tables.now) }
+        requires safe { known ≡ false → Safe (length string.now) (progress_of self) l r m }
+        ensures settled { pair_of result
+            ≡ settled_from known (oriented reverse (map S.rank string.now)) (progress_of self) (tables_in tables.now) l r m }
+        ensures rows { result.state.rows ≡ self.rows }
     {
         if known {
             return SettledPair {
@@ -242,8 +145,8 @@ impl State {
         if r + m < self.reach {
             let a = l - self.shift;
             let b = r - self.shift;
-            if read(next, a) == b {
-                let v = read(next_match, a);
+            if tables.next[a] as usize == b {
+                let v = tables.next_match[a] as usize;
                 if r + v < self.reach {
                     return SettledPair {
                         state: self,
@@ -252,7 +155,7 @@ impl State {
                     };
                 }
             } else {
-                let w = read(previous_match, b);
+                let w = tables.previous_match[b] as usize;
                 if r + w < self.reach {
                     return SettledPair {
                         state: self,
@@ -263,19 +166,20 @@ impl State {
             }
             from = self.reach - r;
         }
-        let report = scan(
-            letters,
-            symbols,
-            wide,
-            reverse,
-            n,
-            l,
-            r,
-            from,
-            self.equal,
-            self.unequal,
-        );
+        let report = scan(string, reverse, l, r, from, self.equal, self.unequal);
         self.stop(l, r, report)
+    }
+
+    // The figures of a build.
+    fn report(self) -> Report
+        ensures { result ≡ figures_in self }
+    {
+        Report {
+            rows: self.rows,
+            equal: self.equal,
+            unequal: self.unequal,
+            reach: self.reach,
+        }
     }
 }
 
@@ -290,29 +194,26 @@ fn set_bit(tree: &mut [u8], k: usize)
     }
 }
 
-// The first `rows` rows of a string of n letters or symbols, over a tree that is cleared. What they have not written in the tables is left as it is.
-// The tree may be shorter than the string asks for, or empty: it is written as far as it goes.
-fn build_rows(
-    letters: &[u8],
-    symbols: &[u32],
-    wide: bool,
+// The first `rows` rows of a string, over a tree that is cleared. What they have not written in the tables is left as it is.
+// The tree may be shorter than the string asks for, or empty: it is written as far as it goes. Inlined, since the order is a constant to its one
+// caller and the tree to the other.
+#[inline(always)]
+fn build_rows<S: Letter>(
+    string: &[S],
     reverse: bool,
-    n: usize,
     rows: usize,
-    previous: &mut [u32],
-    next: &mut [u32],
-    previous_match: &mut [u32],
-    next_match: &mut [u32],
+    tables: &mut Tables,
     tree: &mut [u8],
 ) -> State
-    requires symbols_len { (length (string_of wide letters.now symbols.now) ≡ n) × (n ≤ 1000000) × (rows ≤ n) }
-    requires previous_len { (length previous.old ≡ n) × (length next.old ≡ n) × (length previous_match.old ≡ n) × (length next_match.old ≡ n) }
-    requires tree_len_bound { (length tree.old ≤ tree_length n) × (tree.old ≡ replicate (length tree.old) 0) }
-    ensures next_match_after { build_state result
-        (cleared_tables n rows (tables_of previous.new next.new previous_match.new next_match.new))
-        ≡ after_rows (oriented_string wide reverse letters.now symbols.now) rows }
-    ensures tree_after { tree.new ≡ take (length tree.old) (tree_bytes (oriented_string wide reverse letters.now symbols.now) rows) }
-    ensures rows_value { result.rows ≡ rows }
+    requires few { (length string.now ≤ 1000000) × (rows ≤ length string.now) }
+    requires long { AreOf (length string.now) (tables_in tables.old) }
+    requires clear { (length tree.old ≤ tree_length (length string.now)) × (tree.old ≡ replicate (length tree.old) 0) }
+    ensures lent { SameLent tables.old tables.new }
+    ensures still_long { AreOf (length string.now) (tables_in tables.new) }
+    ensures steps { build_state result (cleared_tables (length string.now) rows (tables_in tables.new))
+        ≡ after_rows (oriented reverse (map S.rank string.now)) rows }
+    ensures bits { tree.new ≡ take (length tree.old) (tree_bytes (oriented reverse (map S.rank string.now)) rows) }
+    ensures rows_done { result.rows ≡ rows }
 {
     if rows == 0 {
         return State {
@@ -323,6 +224,7 @@ fn build_rows(
             unequal: 0,
         };
     }
+    let n = string.len();
     let mut state = State {
         reach: 1,
         shift: 0,
@@ -334,14 +236,15 @@ fn build_rows(
     // previous and its match of the row that is done last, still to be recorded; in a walk, those of l
     let mut p = n;
     let mut v = 0usize;
+    // both loops end in their middle, so they are left by labels, as the document has the walk
     'rows: loop {
         set_bit(tree, bit);
         bit += 1;
         let r = state.rows + 1;
         state.rows = r;
-        record_entry(previous, previous_match, r - 1, p, v);
+        record_entry(tables.previous, tables.previous_match, r - 1, p, v);
         // none until a later row settles it
-        record_entry(next, next_match, r - 1, n, 0);
+        record_entry(tables.next, tables.next_match, r - 1, n, 0);
         if rows <= r {
             break 'rows;
         }
@@ -349,20 +252,7 @@ fn build_rows(
         let mut m = 0;
         let mut known = false;
         'walk: loop {
-            let pair = state.settle(
-                letters,
-                symbols,
-                wide,
-                reverse,
-                n,
-                next,
-                previous_match,
-                next_match,
-                l,
-                r,
-                m,
-                known,
-            );
+            let pair = state.settle(string, reverse, tables, l, r, m, known);
             state = pair.state;
             m = pair.matched;
             if pair.left_smaller {
@@ -370,7 +260,7 @@ fn build_rows(
                 v = m;
                 break 'walk;
             }
-            record_entry(next, next_match, l, r, m);
+            record_entry(tables.next, tables.next_match, l, r, m);
             bit += 1;
             if p == n {
                 v = 0;
@@ -381,103 +271,60 @@ fn build_rows(
             }
             known = m < v;
             l = p;
-            p = read(previous, l);
-            v = read(previous_match, l);
+            p = tables.previous[l] as usize;
+            v = tables.previous_match[l] as usize;
         }
     }
     state
 }
 
 // Builds the four tables and the tree of a string, as they are after `rows` rows. A refusal writes nothing.
-pub fn build(
-    letters: &[u8],
-    symbols: &[u32],
-    wide: bool,
+pub fn build<S: Letter>(
+    string: &[S],
     rows: usize,
-    previous: &mut [u32],
-    next: &mut [u32],
-    previous_match: &mut [u32],
-    next_match: &mut [u32],
+    tables: &mut Tables,
     tree: &mut [u8],
-) -> Built
-    ensures { BuiltExactly (string_of wide letters.now symbols.now) rows
-        (lent previous.old next.old previous_match.old next_match.old tree.old)
-        (lent previous.new next.new previous_match.new next_match.new tree.new)
+) -> Result<Built, Refusal>
+    ensures lent { SameLent tables.old tables.new }
+    ensures built { BuiltExactly (map S.rank string.now) rows
+        (record { tables = tables_in tables.old; tree = tree.old })
+        (record { tables = tables_in tables.new; tree = tree.new })
         (figures_of result) }
 {
-    let n = ranks::string_length(letters, symbols, wide);
-    let verdict = refusal::build_verdict(
+    let n = string.len();
+    build_verdict(
         n,
         rows,
-        previous.len(),
-        next.len(),
-        previous_match.len(),
-        next_match.len(),
+        tables.previous.len(),
+        tables.next.len(),
+        tables.previous_match.len(),
+        tables.next_match.len(),
         tree.len(),
-    );
-    if let Verdict::Refused(refusal) = verdict {
-        return Built::Refused(refusal);
-    }
+    )?;
     clear_bytes(tree);
-    let state = build_rows(
-        letters,
-        symbols,
-        wide,
-        false,
-        n,
-        rows,
-        previous,
-        next,
-        previous_match,
-        next_match,
-        tree,
-    );
+    let state = build_rows(string, false, rows, tables, tree);
     // none for the positions of which the row is not done
-    let none = n as u32;
-    clear_tables(previous, next, previous_match, next_match, rows, none);
-    answer(n, state.rows, state.equal, state.unequal, state.reach)
+    tables.clear_from(rows, n as u32);
+    Ok(answer(n, state.report()))
 }
 
-// Builds the four tables of the whole string and no tree, in the order of the letters or symbols or in its reverse. A refusal writes nothing.
-pub fn build_tables(
-    letters: &[u8],
-    symbols: &[u32],
-    wide: bool,
+// Builds the four tables of the whole string and no tree, in the order of its letters or in the reverse. A refusal writes nothing.
+pub fn build_tables<S: Letter>(
+    string: &[S],
     reverse: bool,
-    previous: &mut [u32],
-    next: &mut [u32],
-    previous_match: &mut [u32],
-    next_match: &mut [u32],
-) -> Verdict
-    ensures { TablesBuilt (oriented reverse (string_of wide letters.now symbols.now))
-        (tables_of previous.old next.old previous_match.old next_match.old)
-        (tables_of previous.new next.new previous_match.new next_match.new)
-        result }
+    tables: &mut Tables,
+) -> Result<(), Refusal>
+    ensures lent { SameLent tables.old tables.new }
+    ensures built { TablesBuilt (oriented reverse (map S.rank string.now)) (tables_in tables.old) (tables_in tables.new) result }
 {
-    let n = ranks::string_length(letters, symbols, wide);
-    let verdict = refusal::tables_verdict(
+    let n = string.len();
+    tables_verdict(
         n,
-        previous.len(),
-        next.len(),
-        previous_match.len(),
-        next_match.len(),
-    );
-    if let Verdict::Refused(refusal) = verdict {
-        return Verdict::Refused(refusal);
-    }
-    let mut no_tree = [0u8; 0];
-    build_rows(
-        letters,
-        symbols,
-        wide,
-        reverse,
-        n,
-        n,
-        previous,
-        next,
-        previous_match,
-        next_match,
-        &mut no_tree,
-    );
-    Verdict::Accepted
+        tables.previous.len(),
+        tables.next.len(),
+        tables.previous_match.len(),
+        tables.next_match.len(),
+    )?;
+    build_rows(string, reverse, n, tables, &mut []);
+    Ok(())
 }

@@ -10,7 +10,7 @@ use lib.ListN.{length}
 use borrow.Author.Tests.{lt-ltb, le-ltb, ltb-false, eqb-true, eq-eqb, ne_eqb, leb-false, lt-leb, le-leb, not-false}
 use Rattle.suffix.specs.Search.{sum_below}
 use Rattle.suffix.specs.Tree.{tree_length}
-use Rattle.suffix.proofs.Search.{any_true, any_false, any_not}
+use Rattle.suffix.proofs.Search.{any_false, any_not}
 use Rattle.refusal.specs.declared.Refusal.TheVariants.{TooLong, TreeLength, PositionOutside, NotMarked, TooManyEntries, WrongContents}
 use Rattle.refusal.specs.Numbers.{first_of, number_if}
 use Rattle.refusal.specs.Conditions.{too_long, position_outside}
@@ -150,9 +150,6 @@ module _ (counts : List ℕ) where
   pub not_too_long : ((k : ℕ) → k < length counts → count_in counts k ≤ 1000000) → any_too_long counts ≡ false
   not_too_long b = any_false (λ j. too_long (count_in counts j)) (length counts) (λ k h. le-ltb 1000000 (count_in counts k) (b k h))
 
-  pub one_too_long : (k : ℕ) → k < length counts → 1000000 < count_in counts k → any_too_long counts ≡ true
-  one_too_long k h b = any_true (λ j. too_long (count_in counts j)) (length counts) k h (lt-ltb 1000000 (count_in counts k) b)
-
 module _ (counts trees : List ℕ) (size : ℕ) where
   abbrev count : ℕ
   count = length counts
@@ -168,16 +165,22 @@ module _ (counts trees : List ℕ) (size : ℕ) where
   unfolding write_refusal first_of
   write_1 a b = rw (le-ltb 64 count a, b)
 
-  pub trees_off : length trees ≢ bytes → size_off counts (length trees) size ≡ true
+  trees_off : length trees ≢ bytes → size_off counts (length trees) size ≡ true
   trees_off q = rw (ne_eqb (length trees) bytes q)
 
-  pub buffer_off : length trees ≡ bytes → size ≢ contents_end count + bytes → size_off counts (length trees) size ≡ true
+  buffer_off : length trees ≡ bytes → size ≢ contents_end count + bytes → size_off counts (length trees) size ≡ true
   buffer_off e q = rw (eq-eqb (length trees) bytes e, ne_eqb size (contents_end count + bytes) q)
 
   module _ (A : Allowed counts) where
-    pub write_3 : size_off counts (length trees) size ≡ true → write_refusal counts trees size ≡ 3
+    write_3 : size_off counts (length trees) size ≡ true → write_refusal counts trees size ≡ 3
     unfolding write_refusal first_of
     write_3 c = rw (le-ltb 64 count A.few, not_too_long counts A.short, c)
+
+    pub write_3_trees : length trees ≢ bytes → write_refusal counts trees size ≡ 3
+    write_3_trees q = write_3 (trees_off q)
+
+    pub write_3_buffer : length trees ≡ bytes → size ≢ contents_end count + bytes → write_refusal counts trees size ≡ 3
+    write_3_buffer e q = write_3 (buffer_off e q)
 
     pub write_flaw : length trees ≡ bytes → size ≡ contents_end count + bytes → write_refusal counts trees size ≡ trees_flaw counts trees
     unfolding write_refusal first_of
@@ -211,3 +214,9 @@ module _ (counts trees : List ℕ) (size : ℕ) where
         buffer = eqb-true _ _ (not-false _ d.1);
         sound = sym (first_only (trees_flaw counts trees)) ∙ c.1;
       }
+
+-- what the writer's tests find
+pub ruleset writer_tests = (write_10, write_1, write_3_trees, write_3_buffer, write_flaw, none_too_long)
+
+-- what the reader's tests find
+pub ruleset reader_tests = (read_9, read_10, read_11, read_5, read_flaw)

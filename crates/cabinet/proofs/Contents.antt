@@ -17,7 +17,7 @@ use Rattle.cabinet.proofs.LittleEndian.{four_length, number_in}
 -- ---- bytes of bodies
 
 -- the first body apart, and the last
-bytes_first : (letters : ℕ → ℕ) (k : ℕ) → body_bytes letters (suc k) ≡ tree_length (letters 0) + body_bytes (λ j. letters (suc j)) k
+pub bytes_first : (letters : ℕ → ℕ) (k : ℕ) → body_bytes letters (suc k) ≡ tree_length (letters 0) + body_bytes (λ j. letters (suc j)) k
 unfolding sum_below
 bytes_first letters zero = omega arith
 bytes_first letters (suc k) = omega (arith, bytes_first letters k)

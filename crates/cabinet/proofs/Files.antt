@@ -7,7 +7,8 @@ use lib.ListN.{length, take, drop, length-append}
 use lib.Seq.{take_at, drop_at}
 use Rattle.suffix.proofs.Search.{tabulate_is}
 use Rattle.cabinet.specs.LittleEndian.{four_bytes}
-use Rattle.cabinet.specs.File.{Mark, mark_bytes, mark_number, contents_end, contents, marked_file, body_bytes, count_in, mark_of, count_of, place_of, letters_of, counts_of, bodies_of}
+use Rattle.cabinet.specs.declared.Mark.{Mark}
+use Rattle.cabinet.specs.File.{mark_bytes, mark_number, contents_end, contents, marked_file, body_bytes, count_in, mark_of, count_of, place_of, letters_of, counts_of, bodies_of}
 use Rattle.cabinet.proofs.LittleEndian.{four_length, number_in}
 use Rattle.cabinet.proofs.Marks.{mark_length, mark_met}
 use Rattle.cabinet.proofs.Contents.{bytes_most, contents_length, place_in, letters_in}

@@ -10,7 +10,9 @@ use Rattle.suffix.specs.Lyndon.{part}
 use Rattle.suffix.specs.Tree.{tree_length}
 use Rattle.shape.specs.Claims.{AreBytes}
 use Rattle.suffix.proofs.Search.{tabulate_length}
-use Rattle.cabinet.specs.File.{Mark, LYN2, mark_bytes, mark_number, contents_end, contents, marked_file, cabinet, body_bytes, body_in, count_in, mark_of, count_of, letters_of, end_before, body_of, counts_of, bodies_of}
+use Rattle.cabinet.specs.declared.Mark.{Mark}
+use Rattle.cabinet.specs.declared.Mark.TheVariants.{LYN2}
+use Rattle.cabinet.specs.File.{mark_bytes, mark_number, contents_end, contents, marked_file, cabinet, body_bytes, body_in, count_in, mark_of, count_of, letters_of, end_before, body_of, counts_of, bodies_of}
 use Rattle.cabinet.specs.Refusals.{bodies_flaw, trees_flaw, write_refusal, Fitting}
 use Rattle.cabinet.specs.Claims.{Reads, RefusedReading, RefusedWriting, ReadOfAccepted, WrittenThenRead, WrittenIsAccepted, BothMarksAreTaken, AcceptedThenWritten}
 use Rattle.cabinet.specs.LittleEndian.{four_bytes}

@@ -5,6 +5,7 @@ use Prim.Native.Nat.{ℕ, zero, suc, ◌+◌, ◌*◌, ◌/◌, ◌%◌, ◌≤�
 use native.Mathlib.Omega.{arith}
 use lib.ListN.{length, get_or, take, drop, length-drop, take-append-drop}
 use lib.Seq.{take_at, drop_at, drop-cons, drop-drop, get_or-drop, length-take-le}
+use Rattle.std.specs.Int.{w32, to_le_bytes, from_le_bytes}
 use Rattle.suffix.specs.Lyndon.{part}
 use Rattle.shape.specs.Claims.{AreBytes}
 use Rattle.cabinet.specs.LittleEndian.{bytes_of, value_of, four_bytes, number_at}
@@ -13,6 +14,14 @@ use Rattle.cabinet.specs.LittleEndian.{bytes_of, value_of, four_bytes, number_at
 pub four_length : (v : ℕ) → length (four_bytes v) ≡ 4
 unfolding bytes_of
 four_length v = refl
+
+-- the bytes of a number, as the library has them
+pub low_bytes : (v : ℕ) → to_le_bytes w32 v ≡ four_bytes v
+unfolding bytes_of
+low_bytes v =
+    let third : v / 65536 % 256 ≡ v / 256 / 256 % 256 = omega arith in
+    let fourth : v / 16777216 % 256 ≡ v / 256 / 256 / 256 % 256 = omega arith in
+    rw (third, fourth)
 
 value_back : (v : ℕ) → v < 4294967296 → value_of (four_bytes v) ≡ v
 unfolding bytes_of value_of
@@ -49,10 +58,10 @@ module _ (file : List ℕ) (at : ℕ) (h : at + 4 ≤ length file) where
         next (at + 3) (at + 4) (omega arith) (omega arith),
       )
 
-  pub number_is : {i j k l : ℕ} → i ≡ at → j ≡ at + 1 → k ≡ at + 2 → l ≡ at + 3
-      → get_or file i 0 + 256 * (get_or file j 0 + 256 * (get_or file k 0 + 256 * get_or file l 0)) ≡ number_at file at
-  unfolding number_at value_of
-  number_is p q r s = rw (p, q, r, s, four) (omega arith)
+  -- as the library has their number
+  pub number_is : {bytes : List ℕ} {k : ℕ} → bytes ≡ take k (drop at file) → k ≡ 4 → from_le_bytes w32 bytes ≡ number_at file at
+  unfolding number_at value_of part
+  number_is e z = rw (e, z, four) (omega arith)
 
   module _ (small : AreBytes file) where
     -- the number read, written again

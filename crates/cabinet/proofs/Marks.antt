@@ -11,7 +11,9 @@ use lib.Seq.{ext_get_or, get_or-take, length-take-le}
 use borrow.Author.Tests.{le-ltb, ltb-false, eqb-true, eq-eqb, ne_eqb}
 use Rattle.suffix.proofs.Cases.{Same, same, other, same?, Test, holds, fails, test}
 use Rattle.suffix.proofs.Search.{all_true, all_false, all_at}
-use Rattle.cabinet.specs.File.{Mark, LYN1, LYN2, mark_bytes, mark_number, begins, mark_of}
+use Rattle.cabinet.specs.declared.Mark.{Mark}
+use Rattle.cabinet.specs.declared.Mark.TheVariants.{LYN1, LYN2}
+use Rattle.cabinet.specs.File.{mark_bytes, mark_number, begins, mark_of}
 use Rattle.cabinet.specs.Refusals.{not_marked}
 
 pub mark_length : (m : Mark) → length (mark_bytes m) ≡ 4
@@ -90,6 +92,9 @@ module _ (file : List ℕ) where
 
   pub marked : not_marked file ≡ false → Marked file
   marked e = is_marked (λ z. true≢false (sym (eq-eqb (mark_of file) 0 z) ∙ e))
+
+  pub marked_long : not_marked file ≡ false → 8 ≤ length file
+  marked_long e = (marked e).long
 
   -- where it is not so, it has no mark
   unmarked : (Marked file → ⊥) → mark_of file ≡ 0

@@ -3,7 +3,9 @@
 use Rattle.std.specs.Prelude.{◌≡◌, ◌≢◌, List, [], ◌∷◌, ◌++◌, map, ℕ, ◌≤◌, ◌<◌, length, get_or, drop}
 use Rattle.refusal.specs.Conditions.{tree_refusal}
 use Rattle.shape.specs.Claims.{AreBytes}
-use Rattle.cabinet.specs.File.{Mark, LYN2, mark_bytes, mark_number, marked_file, cabinet, body_in, count_in, mark_of, count_of, counts_of, bodies_of}
+use Rattle.cabinet.specs.declared.Mark.{Mark}
+use Rattle.cabinet.specs.declared.Mark.TheVariants.{LYN2}
+use Rattle.cabinet.specs.File.{mark_bytes, mark_number, marked_file, cabinet, body_in, count_in, mark_of, count_of, counts_of, bodies_of}
 use Rattle.cabinet.specs.Refusals.{read_refusal, file_refusal, write_refusal}
 use Rattle.cabinet.specs.Answers.{written_file, read_body, read_place, read_letters, read_mark}
 

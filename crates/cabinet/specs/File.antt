@@ -3,15 +3,13 @@ use Rattle.std.specs.Prelude.{Bool, true, false, List, [], ◌∷◌, ◌++◌, 
 use Rattle.suffix.specs.Search.{all_below, sum_below, tabulate}
 use Rattle.suffix.specs.Lyndon.{part}
 use Rattle.suffix.specs.Tree.{tree_length}
+use Rattle.cabinet.specs.declared.Mark.{Mark}
+use Rattle.cabinet.specs.declared.Mark.TheVariants.{LYN1, LYN2}
 use Rattle.cabinet.specs.LittleEndian.{four_bytes, number_at}
 
 -- ---- the two marks
 
 -- T-01: "It begins with the four bytes `LYN1`"; T-04: "New cabinets start with `LYN2`"
-pub data Mark : Type 0 where
-  LYN1 : Mark
-  LYN2 : Mark
-
 abbrev pub mark_bytes : Mark → List ℕ
 mark_bytes LYN1 = 0x4C ∷ 0x59 ∷ 0x4E ∷ 0x31 ∷ []
 mark_bytes LYN2 = 0x4C ∷ 0x59 ∷ 0x4E ∷ 0x32 ∷ []

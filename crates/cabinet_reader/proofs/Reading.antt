@@ -1,20 +1,36 @@
 -- Contents that are looked through entry by entry.
 use mathlib.Core.Path.{◌≡◌, sym, ap, ◌∙◌}
 use mathlib.Core.Logic.{◌≢◌}
-use mathlib.Core.Bool.{true, false}
-use mathlib.Core.List.{List}
-use Prim.Native.Nat.{ℕ, ◌+◌, ◌-◌, ◌*◌, ◌≤◌, ◌<◌}
+use mathlib.Core.Bool.{Bool, true, false, true≢false}
+use mathlib.Core.List.{List, ◌++◌}
+use Prim.Native.Nat.{ℕ, ◌+◌, ◌-◌, ◌≤◌, ◌<◌}
 use native.Mathlib.Omega.{arith}
-use lib.ListN.{length, take, drop, set, length-set, length-drop}
-use lib.Seq.{take_all, get_or-set_same, get_or-set_other}
+use lib.ListN.{length, take, drop, set, length-set, length-drop, take-append-drop}
+use lib.Dec.{eqb}
+use lib.Seq.{take_all, take_at, get_or-set_same, get_or-set_other}
+use Rattle.std.specs.List.{starts_with}
+use Rattle.std.proofs.lemmas.Slice.Eq.{starts_is}
+use Rattle.std.proofs.lemmas.Bool.Decides.{Decides-eqb}
+use Rattle.cabinet.specs.declared.Mark.{Mark}
+use Rattle.cabinet.specs.File.{mark_bytes}
+use Rattle.cabinet.proofs.Marks.{mark_length}
 use Rattle.suffix.specs.Search.{sum_below}
 use Rattle.suffix.specs.Tree.{tree_length}
 use Rattle.suffix.proofs.Search.{tabulate_is}
 use Rattle.cabinet.specs.File.{contents_end, count_in, count_of, place_of, letters_of, end_before, counts_of}
 use Rattle.cabinet.specs.Refusals.{wrong_contents, file_flaw, write_refusal}
-use Rattle.cabinet.proofs.Contents.{bytes_most, bytes_more}
+use Rattle.cabinet.proofs.Contents.{bytes_more}
 use Rattle.cabinet.proofs.Bodies.{and_here, flaw_apart}
 use Rattle.cabinet.proofs.Conditions.{Right, not_wrong, wrong}
+
+-- whether the file starts with the letters of a mark
+module _ (file : List ℕ) (m : Mark) {r : Bool} {p : List ℕ} (e : r ≡ starts_with eqb file p) (z : p ≡ mark_bytes m) where
+  pub is_met : r ≡ true → take 4 file ≡ mark_bytes m
+  is_met q =
+      ap (take 4) ((starts_is Decides-eqb file p r e).0 q ∙ ap (λ l. l ++ drop (length p) file) z) ∙ take_at (mark_bytes m) (drop (length p) file) 4 (mark_length m)
+
+  pub not_met : r ≡ false → take 4 file ≢ mark_bytes m
+  not_met q h = true≢false (sym ((starts_is Decides-eqb file p r e).1 (drop 4 file) (sym (take-append-drop 4 file) ∙ ap (λ l. l ++ drop 4 file) (h ∙ sym z))) ∙ q)
 
 -- k entries are right, and their bodies end at `end`
 pub record RightTo (file : List ℕ) (k end : ℕ) : Type 0 where
@@ -32,9 +48,6 @@ module _ (file : List ℕ) where
   too_short h = wrong file (λ R. omega (arith, R.whole))
 
   module _ {k end : ℕ} (S : RightTo file k end) where
-    pub end_most : end ≤ contents_end (count_of file) + 250000 * k
-    end_most = omega (arith, S.ends, bytes_most (letters_of file) k S.short)
-
     pub right_more : {next : ℕ} → next ≡ end + tree_length (letters_of file k) → place_of file k ≡ end → letters_of file k ≤ 1000000 → RightTo file (k + 1) next
     right_more z p n =
         record {
@@ -82,6 +95,9 @@ module _ (file counts : List ℕ) where
 
     pub all_listed : k ≡ count_of file → counts ≡ counts_of file
     all_listed c = tabulate_is (letters_of file) counts (count_of file) L.size (λ j h. L.listed j (omega arith))
+
+-- what the reader finds in contents, entry by entry
+pub ruleset contents = (right_none, too_short, right_more, wrong_end, right_end, wrong_place, wrong_letters, listed_none, listed_more, all_listed)
 
 -- the verdict on the letter counts and the bodies apart from the file
 pub read_apart : (file : List ℕ) → count_of file ≤ 64 → Right file → {counts : List ℕ} {at size : ℕ} → counts ≡ counts_of file → at ≡ contents_end (count_of file) → size ≡ length file - at

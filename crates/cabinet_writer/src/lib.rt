@@ -9,7 +9,7 @@ ghost use Rattle.cabinet.specs.File.{contents_end, contents, cabinet};
 ghost use Rattle.cabinet.specs.Refusals.{Allowed, Fitting};
 ghost use Rattle.cabinet.specs.Answers.{Written};
 
-use refusal::Verdict;
+use refusal::Refusal;
 use suffix::tree_length;
 
 // Puts a number as four bytes, the lowest byte first.
@@ -17,10 +17,7 @@ fn put_number(file: &mut [u8], at: usize, number: u32)
     requires { at + 4 ≤ length file.old }
     ensures { Wrote file.old file.new (four_bytes number) at (at + 4) }
 {
-    file[at] = (number % 256) as u8;
-    file[at + 1] = (number / 256 % 256) as u8;
-    file[at + 2] = (number / 256 / 256 % 256) as u8;
-    file[at + 3] = (number / 256 / 256 / 256 % 256) as u8;
+    file[at..at + 4].copy_from_slice(&number.to_le_bytes());
 }
 
 // Puts a contents entry: the body's place and its letter count.
@@ -33,17 +30,15 @@ fn put_entry(file: &mut [u8], at: usize, place: usize, n: u32)
 }
 
 // Puts the contents behind the entry count.
+#[tactic(auto, using(crate::proofs::Filling::entries))]
 fn put_contents(counts: &[u32], file: &mut [u8])
     requires { Allowed counts.now × (contents_end (length counts.now) ≤ length file.old) }
     ensures { Wrote file.old file.new (contents (contents_end (length counts.now)) counts.now) 8 (contents_end (length counts.now)) }
 {
     let mut place = 8 + 8 * counts.len();
-    let mut k = 0;
-    while k < counts.len() {
-        let n = counts[k];
-        put_entry(file, 8 + 8 * k, place, n);
-        place += tree_length(n as usize);
-        k += 1;
+    for (k, n) in counts.iter().enumerate() {
+        put_entry(file, 8 + 8 * k, place, *n);
+        place += tree_length(*n as usize);
     }
 }
 
@@ -59,15 +54,11 @@ fn fill(counts: &[u32], trees: &[u8], file: &mut [u8])
 }
 
 // Writes the trees of these letter counts, end to end, to a buffer of the file's size. Refused, the buffer is as it was.
-pub fn write(counts: &[u32], trees: &[u8], file: &mut [u8]) -> Verdict
+#[tactic(auto, using(cabinet::proofs::Conditions::takes, refusal::proofs::Numbers::unless_taken))]
+pub fn write(counts: &[u32], trees: &[u8], file: &mut [u8]) -> Result<(), Refusal>
     ensures { Written counts.now trees.now file.old file.new (verdict_number result) }
 {
-    let verdict = cabinet_bodies::verdict_on(counts, trees, file.len());
-    match verdict {
-        Verdict::Refused(_) => verdict,
-        Verdict::Accepted => {
-            fill(counts, trees, file);
-            Verdict::Accepted
-        }
-    }
+    cabinet_bodies::verdict_on(counts, trees, file.len())?;
+    fill(counts, trees, file);
+    Ok(())
 }

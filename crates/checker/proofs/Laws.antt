@@ -7,15 +7,16 @@ use Prim.Native.Nat.{ℕ, ◌-◌, ◌≤◌, ◌<◌}
 use native.Mathlib.Omega.{arith}
 use lib.Dec.{eqb}
 use lib.ListN.{length, get_or}
-use borrow.Author.Tests.{lt-ltb, le-ltb, ltb-false, eq-eqb, eqb-true, not-false}
+use borrow.Author.Tests.{lt-ltb, le-ltb, eq-eqb, ne_eqb, eqb-true, not-false}
 use Rattle.suffix.specs.Search.{tabulate, least_from}
 use Rattle.suffix.specs.Nearest.{next}
 use Rattle.suffix.specs.Rows.{Tables, tables_after}
-use Rattle.suffix.proofs.Cases.{Same, same, other, same?, Tri, lt, eq, gt, tri}
+use Rattle.suffix.proofs.Cases.{Tri, lt, eq, gt, tri}
 use Rattle.suffix.proofs.Search.{tabulate_length, tabulate_entry, tabulate_is, Least, found, absent, least}
 use Rattle.suffix.proofs.Laws.{all_rows_give_all_entries}
 use Rattle.refusal.specs.declared.Refusal.TheVariants.{TooLong, TableLength}
-use Rattle.refusal.specs.declared.Verdict.{Verdict}
+use Rattle.refusal.specs.declared.Refusal.{Refusal}
+use Rattle.std.specs.Prelude.{Result}
 use Rattle.refusal.specs.Numbers.{verdict_number, first_of, number_if, lowest, lowest_from, unless_refused}
 use Rattle.refusal.specs.Conditions.{too_long, table_length_off, a_table_length_off, tables_refusal}
 use Rattle.refusal.proofs.Numbers.{first_none, nothing_found, neither, unless_taken, unless_refused_lem}
@@ -23,7 +24,7 @@ use Rattle.refusal.proofs.Tables.{not_off}
 use Rattle.outcome.specs.Built.{Lent, lent_after, tables_refusal_of, TablesBuilt}
 use Rattle.outcome.proofs.Answers.{left_built}
 use Rattle.checker.specs.Checked.{is_wrong, least_wrong, Finding, right, wrong_at, refused, found_at, check_refusal, finding, work_at_exit, CheckedExactly}
-use Rattle.checker.specs.Comparing.{differs, first_difference, compared_with}
+use Rattle.checker.specs.Comparing.{differs, first_difference}
 use Rattle.checker.specs.Claims.{Finds, FindsTheLeastWrong, BuiltThenChecked}
 use Rattle.checker.proofs.Comparing.{found_none, found_wrong, least_same}
 
@@ -48,20 +49,20 @@ module _ (y claimed : List ℕ) (work : Tables) where
   abbrev claim_off : Bool
   claim_off = table_length_off (length y) (length claimed)
 
-  pub claimed_off : length y ≤ 1000000 → claim_off ≡ true → {k : ℕ} → k ≡ 2 → k ≡ check_refusal y claimed work
+  claimed_off : length y ≤ 1000000 → claim_off ≡ true → 2 ≡ check_refusal y claimed work
   unfolding check_refusal first_of
-  claimed_off h e q = rw (le-ltb _ _ h, e) q
+  claimed_off h e = rw (le-ltb _ _ h, e) refl
 
-  pub as_build : claim_off ≡ false → check_refusal y claimed work ≡ tables_refusal_of y work
+  as_build : claim_off ≡ false → check_refusal y claimed work ≡ tables_refusal_of y work
   unfolding check_refusal tables_refusal_of tables_refusal
   as_build e = claim_fits (too_long (length y)) claim_off work_off e
 
-  pub too_long_lem : 1000000 < length y → check_refusal y claimed work ≡ tables_refusal_of y work
+  too_long_lem : 1000000 < length y → check_refusal y claimed work ≡ tables_refusal_of y work
   unfolding check_refusal tables_refusal_of tables_refusal
   too_long_lem h = long_first (too_long (length y)) claim_off work_off (lt-ltb 1000000 (length y) h)
 
   -- the claimed table fits, or the string is too long
-  pub same_refusal : (length y ≤ 1000000 → claim_off ≡ false) → check_refusal y claimed work ≡ tables_refusal_of y work
+  same_refusal : (length y ≤ 1000000 → claim_off ≡ false) → check_refusal y claimed work ≡ tables_refusal_of y work
   same_refusal f = go (tri (length y) 1000000)
     where
       go : Tri (length y) 1000000 → check_refusal y claimed work ≡ tables_refusal_of y work
@@ -75,26 +76,34 @@ module _ (y claimed : List ℕ) (work : Tables) where
       let a = first_none _ _ (first_none _ _ e).1 in
       not_off _ _ (neither _ _ (nothing_found _ TableLength a.0)).0
 
-  few : check_refusal y claimed work ≡ 0 → length y ≤ 1000000
-  unfolding check_refusal
-  few e = ltb-false _ _ (nothing_found _ TooLong (first_none _ _ e).0)
+  refused_claim : {k : ℕ} → 0 < k → k ≡ check_refusal y claimed work → {after : Tables} → after ≡ work_at_exit y claimed work → CheckedExactly y claimed work after (refused k)
+  unfolding finding
+  refused_claim h e leaves =
+      record { answers = ap refused e ∙ sym (unless_refused_lem _ _ _ (λ z. omega (arith, h, e, z))); leaves = leaves }
 
-  pub refused_claim : {k : ℕ} → 0 < k → k ≡ check_refusal y claimed work → CheckedExactly y claimed work work (refused k)
-  unfolding finding work_at_exit
-  refused_claim h e =
-      let ne : check_refusal y claimed work ≢ 0 = (λ z. omega (arith, h, e, z)) in
-      record { answers = ap refused e ∙ sym (unless_refused_lem _ _ _ ne); leaves = sym (unless_refused_lem _ _ _ ne) }
+  -- where the claimed table alone is refused
+  pub wrong_length : length y ≤ 1000000 → length claimed ≢ length y → CheckedExactly y claimed work work (refused 2)
+  unfolding work_at_exit
+  wrong_length h d =
+      let e : 2 ≡ check_refusal y claimed work = claimed_off h (rw (ne_eqb _ _ d)) in
+      refused_claim (omega arith) e (sym (unless_refused_lem _ _ _ (λ z. omega (arith, e, z))))
 
 -- the build, over the same tables, is refused where the check is
-module _ (y claimed : List ℕ) {before after : Tables} {verdict : Verdict} (B : TablesBuilt y before after verdict)
-    (e : check_refusal y claimed before ≡ tables_refusal_of y before) where
+module _ (y claimed : List ℕ) {before after : Tables} {verdict : Result (Unit {0}) Refusal} (B : TablesBuilt y before after verdict)
+    (fits : length y ≤ 1000000 → length claimed ≡ length y) where
+  agree : check_refusal y claimed before ≡ tables_refusal_of y before
+  agree = same_refusal y claimed before (λ h. rw (eq-eqb _ _ (fits h)))
+
   left : after ≡ work_at_exit y claimed before
   unfolding work_at_exit
-  left = B.leaves ∙ ap (λ k. unless_refused k (tables_after y (length y)) before) (sym e)
+  left = B.leaves ∙ ap (λ k. unless_refused k (tables_after y (length y)) before) (sym agree)
+
+  pub build_refused : 0 < verdict_number verdict → CheckedExactly y claimed before after (refused (verdict_number verdict))
+  build_refused h = refused_claim y claimed before h (B.answers ∙ sym agree) left
 
   module _ (none : verdict_number verdict ≡ 0) where
     taken : check_refusal y claimed before ≡ 0
-    taken = e ∙ sym B.answers ∙ none
+    taken = agree ∙ sym B.answers ∙ none
 
     next_is : after.next ≡ tabulate (length y) (next y)
     next_is = ap (λ (t : Tables). t.next) (B.leaves ∙ unless_taken _ _ _ (sym B.answers ∙ none) ∙ all_rows_give_all_entries y)
@@ -102,8 +111,8 @@ module _ (y claimed : List ℕ) {before after : Tables} {verdict : Verdict} (B :
     next_length_lem : length after.next ≡ length y
     next_length_lem = ap length next_is ∙ tabulate_length (next y) (length y)
 
-    pub lengths : (length after.next ≤ 1000000) × (length claimed ≡ length after.next)
-    lengths = (omega (arith, next_length_lem, few y claimed before taken), claimed_length y claimed before taken ∙ sym next_length_lem)
+    pub lengths : length claimed ≡ length after.next
+    lengths = claimed_length y claimed before taken ∙ sym next_length_lem
 
     difference_is : first_difference claimed after.next 0 (length after.next) ≡ least_wrong y claimed
     unfolding first_difference least_wrong is_wrong
@@ -113,20 +122,9 @@ module _ (y claimed : List ℕ) {before after : Tables} {verdict : Verdict} (B :
         ∙ least_same (differs claimed after.next) (is_wrong y claimed) (length y) 0 (length y)
         (λ k a b. ap (λ v. not (eqb (get_or claimed k 0) v)) (ap (λ t. get_or t k 0) next_is ∙ tabulate_entry (next y) (length y) k (omega arith)))
 
-  -- what is found beside the table that is built
-  finding_is : compared_with (verdict_number verdict) claimed after.next ≡ finding y claimed before
-  unfolding finding
-  finding_is = go (same? (verdict_number verdict) 0)
-    where
-      number_is : verdict_number verdict ≡ check_refusal y claimed before
-      number_is = B.answers ∙ sym e
-
-      go : Same (verdict_number verdict) 0 → compared_with (verdict_number verdict) claimed after.next ≡ finding y claimed before
-      go (same z) = unless_taken _ _ _ z ∙ ap₂ found_at (next_length_lem z) (difference_is z) ∙ sym (unless_taken _ _ _ (taken z))
-      go (other z) = unless_refused_lem _ _ _ z ∙ ap refused number_is ∙ sym (unless_refused_lem _ _ _ (λ w. z (number_is ∙ w)))
-
-  pub checked : {f : Finding} → f ≡ compared_with (verdict_number verdict) claimed after.next → CheckedExactly y claimed before after f
-  checked q = record { answers = q ∙ finding_is; leaves = left }
+    pub checked : {f : Finding} → f ≡ found_at (length after.next) (first_difference claimed after.next 0 (length after.next)) → CheckedExactly y claimed before after f
+    unfolding finding
+    checked q = record { answers = q ∙ ap₂ found_at next_length_lem difference_is ∙ sym (unless_taken _ _ _ taken); leaves = left }
 
 -- ---- the claims
 

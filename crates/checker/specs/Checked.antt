@@ -1,14 +1,13 @@
 -- Document 02, T-06: "Given the string and a claimed next table, say 'right' exactly if every entry is the defined one, else give the least
 -- position whose entry is wrong." The string is y, a list of ranks, and n is length y.
-use Rattle.std.specs.Prelude.{◌≡◌, Bool, true, false, not, ◌||◌, List, [], ◌∷◌, ℕ, eqb, length, get_or}
+use Rattle.std.specs.Prelude.{◌≡◌, Bool, true, false, not, ◌||◌, List, [], ◌∷◌, ℕ, eqb, length, get_or, Option, Some, None, Result, Ok, Err}
 use Rattle.suffix.specs.Search.{least_from}
 use Rattle.suffix.specs.Nearest.{next}
 use Rattle.suffix.specs.Rows.{Tables, tables_after}
+use Rattle.refusal.specs.declared.Refusal.{Refusal}
 use Rattle.refusal.specs.declared.Refusal.TheVariants.{TooLong, TableLength}
 use Rattle.refusal.specs.Numbers.{number_of, first_of, number_if, unless_refused}
 use Rattle.refusal.specs.Conditions.{too_long, table_length_off, a_table_length_off}
-use Rattle.checker.specs.declared.Checked.{Checked}
-use Rattle.checker.specs.declared.Checked.TheVariants.{Right, WrongAt, Refused}
 
 -- "whose entry is wrong": it is not the defined one
 unfoldable pub is_wrong : (y claimed : List ℕ) → ℕ → Bool
@@ -23,10 +22,10 @@ pub data Finding : Type 0 where
   wrong_at : (position : ℕ) → Finding
   refused : (number : ℕ) → Finding
 
-abbrev pub finding_of : Checked → Finding
-finding_of Right = right
-finding_of (WrongAt i) = wrong_at i
-finding_of (Refused k) = refused (number_of k)
+abbrev pub finding_of : Result (Option ℕ) Refusal → Finding
+finding_of (Ok None) = right
+finding_of (Ok (Some i)) = wrong_at i
+finding_of (Err k) = refused (number_of k)
 
 -- what is found where i of n positions is the least that is wrong, or i is n
 unfoldable pub found_at : (n i : ℕ) → Finding

@@ -1,8 +1,6 @@
 -- What the contracts of the private functions are written with.
-use Rattle.std.specs.Prelude.{Bool, not, List, ℕ, ◌-◌, eqb, length, get_or}
+use Rattle.std.specs.Prelude.{Bool, not, List, ℕ, ◌-◌, eqb, get_or}
 use Rattle.suffix.specs.Search.{least_from}
-use Rattle.refusal.specs.Numbers.{unless_refused}
-use Rattle.checker.specs.Checked.{Finding, refused, found_at}
 
 abbrev pub differs : (claimed table : List ℕ) → ℕ → Bool
 differs claimed table i = not (eqb (get_or claimed i 0) (get_or table i 0))
@@ -10,7 +8,3 @@ differs claimed table i = not (eqb (get_or claimed i 0) (get_or table i 0))
 -- the least place from `from` on, and before `stop`, where a claimed table differs from another table, or `stop`
 unfoldable pub first_difference : (claimed table : List ℕ) (from stop : ℕ) → ℕ
 first_difference claimed table from stop = least_from from (stop - from) (differs claimed table) stop
-
--- what is found beside the table of a build that is refused with this number, or is not, 0
-abbrev pub compared_with : (number : ℕ) (claimed table : List ℕ) → Finding
-compared_with number claimed table = unless_refused number (found_at (length table) (first_difference claimed table 0 (length table))) (refused number)

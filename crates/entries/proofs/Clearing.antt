@@ -1,10 +1,11 @@
 -- What is in a table that is cleared from a place on.
 use mathlib.Core.Path.{◌≡◌, refl, sym, ap, ◌∙◌}
 use mathlib.Core.List.{List, [], ◌∷◌}
-use Prim.Native.Nat.{ℕ, zero, suc, ◌+◌, ◌≤◌, ◌<◌}
-use native.Mathlib.Numerals.{add-one}
+use Prim.Native.Nat.{ℕ, zero, suc, ◌-◌, ◌≤◌, ◌<◌}
 use native.Mathlib.Omega.{arith}
-use lib.ListN.{length, get_or, set, replicate, length-set}
+use borrow.Rule.Slice.PartMut.{put_mid}
+use Rattle.std.proofs.lemmas.List.{drop_all, append-nil}
+use lib.ListN.{length, get_or, set, replicate}
 use Rattle.entries.specs.Cleared.{cleared_from}
 
 pub cleared_length : (k v : ℕ) (t : List ℕ) → length (cleared_from k v t) ≡ length t
@@ -12,10 +13,6 @@ unfolding cleared_from
 cleared_length k v [] = refl
 cleared_length zero v (x ∷ t) = ap suc (cleared_length zero v t)
 cleared_length (suc k) v (x ∷ t) = ap suc (cleared_length k v t)
-
--- from the same place on, with the same value
-pub cleared_alike : {k v k' v' : ℕ} (t : List ℕ) → k ≡ k' → v ≡ v' → cleared_from k v t ≡ cleared_from k' v' t
-cleared_alike t p q = rw (p, q)
 
 -- no place is left, and every place is
 pub cleared_none : (k v : ℕ) (t : List ℕ) → length t ≤ k → cleared_from k v t ≡ t
@@ -66,18 +63,11 @@ cleared_same k v [] = refl
 cleared_same zero v (z ∷ t) = refl
 cleared_same (suc k) v (z ∷ t) = ap (λ u. z ∷ u) (cleared_same k v t)
 
--- ---- a table that is cleared from its place k on, up to place i so far
-
-pub record Clears (k i v : ℕ) (d₀ d : List ℕ) : Type 0 where
-  pub same : length d ≡ length d₀
-  pub is : cleared_from i v d ≡ cleared_from k v d₀
-
-pub clears_none : {k i v : ℕ} {d : List ℕ} → i ≡ k → Clears k i v d d
-clears_none e = record { same = refl; is = rw e }
-
-pub clears_more : {k i v w : ℕ} {d₀ d : List ℕ} → Clears k i v d₀ d → w ≡ v → Clears k (i + 1) v d₀ (set d i w)
-clears_more {k} {i} {v} {w} {d₀} {d} c e =
-    record { same = length-set d i w ∙ c.same; is = rw (add-one i, e) (cleared_same i v d ∙ c.is) }
-
-pub clears_all : {k i v : ℕ} {d₀ d : List ℕ} → Clears k i v d₀ d → length d₀ ≤ i → d ≡ cleared_from k v d₀
-clears_all {k} {i} {v} {d₀} {d} c h = sym (cleared_none i v d (omega (arith, c.same))) ∙ c.is
+-- the part from k on is filled
+pub filled : (k v : ℕ) (t u : List ℕ) → k ≤ length t → u ≡ replicate (length t - k) v → put_mid k (length t - k) t u ≡ cleared_from k v t
+unfolding cleared_from
+filled zero v t u h e = rw (e, drop_all (length t - 0) t (omega arith)) (append-nil _ ∙ ap (λ n. replicate n v) (omega arith) ∙ sym (cleared_all v t))
+filled (suc k) v [] u h e = absurd (omega arith)
+filled (suc k) v (x ∷ t) u h e =
+    let z : suc (length t) - suc k ≡ length t - k = omega arith in
+    rw z (ap (λ w. x ∷ w) (filled k v t u (omega arith) (rw z at e)))

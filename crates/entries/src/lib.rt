@@ -1,46 +1,44 @@
-// Lent memory that is cleared: the entries of tables and lists from a place on, and bytes.
+// Lent memory: the four tables of a string, and entries and bytes that are cleared.
 #![tactic(auto)]
 
 ghost use Rattle.std.specs.Prelude.{◌≡◌, length, replicate};
 ghost use Rattle.entries.specs.Cleared.{cleared_from};
+ghost use Rattle.entries.specs.Lent.{tables_in, cleared_tables, SameLent};
 
-// The value in every place from one on.
-pub fn clear_from(table: &mut [u32], from: usize, value: u32)
-    ensures { table.new ≡ cleared_from from value table.old }
-{
-    let mut i = from;
-    while i < table.len() {
-        table[i] = value;
-        i += 1;
+// The previous and next tables of a string, and those of their matches.
+#[derive(Drop)]
+pub struct Tables<'a> {
+    pub previous: &'a mut [u32],
+    pub next: &'a mut [u32],
+    pub previous_match: &'a mut [u32],
+    pub next_match: &'a mut [u32],
+}
+
+impl Tables<'_> {
+    // None from a place on, and 0 in the tables of the matches.
+    pub fn clear_from(&mut self, from: usize, none: u32)
+        ensures lent { SameLent self.old self.new }
+        ensures cleared { tables_in self.new ≡ cleared_tables none from (tables_in self.old) }
+    {
+        clear_from(self.previous, from, none);
+        clear_from(self.next, from, none);
+        clear_from(self.previous_match, from, 0);
+        clear_from(self.next_match, from, 0);
     }
 }
 
-// None in two tables from a place on, and 0 in those of their matches.
-pub fn clear_tables(
-    previous: &mut [u32],
-    next: &mut [u32],
-    previous_match: &mut [u32],
-    next_match: &mut [u32],
-    from: usize,
-    none: u32,
-)
-    ensures { (previous.new ≡ cleared_from from none previous.old)
-        × (next.new ≡ cleared_from from none next.old)
-        × (previous_match.new ≡ cleared_from from 0 previous_match.old)
-        × (next_match.new ≡ cleared_from from 0 next_match.old) }
+// The value in every place from one on.
+#[tactic(auto, using(crate::proofs::Clearing::cleared_none, crate::proofs::Clearing::filled))]
+pub fn clear_from(table: &mut [u32], from: usize, value: u32)
+    ensures { table.new ≡ cleared_from from value table.old }
 {
-    clear_from(previous, from, none);
-    clear_from(next, from, none);
-    clear_from(previous_match, from, 0);
-    clear_from(next_match, from, 0);
+    if from < table.len() {
+        table[from..].fill(value);
+    }
 }
 
 pub fn clear_bytes(bytes: &mut [u8])
     ensures { bytes.new ≡ replicate (length bytes.old) 0 }
 {
-    let mut i = 0;
-    while i < bytes.len() {
-        bytes[i] = 0;
-        i += 1;
-    }
+    bytes.fill(0);
 }

@@ -34,8 +34,8 @@ pub fn bit(byte: u8, m: usize) -> bool
 pub fn is_open(tree: &[u8], k: usize) -> bool
     ensures { result ≡ bit_of tree.now k }
 {
-    if k / 8 < tree.len() {
-        return bit(tree[k / 8], k);
+    match tree.get(k / 8) {
+        Some(&byte) => bit(byte, k),
+        None => false,
     }
-    false
 }

@@ -1,4 +1,5 @@
-// The exported functions: each passes its arguments on to the crate that does the work.
+// The exported functions: each passes its arguments on to the crate that does the work. That slices come one by one, refusals as numbers, and
+// functions in pairs for letters and symbols is the C interface.
 #![tactic(auto)]
 
 ghost use Rattle.std.specs.Prelude.{◌≡◌};
@@ -15,10 +16,11 @@ ghost use Rattle.cabinet.specs.Answers.{Written};
 ghost use Rattle.replies.specs.Replies.{Replied, build_reply, reply, next_reply, check_reply, word_reply, cabinet_reply};
 ghost use Rattle.replies.specs.Version.{interface_version};
 
-use replies::{
-    BuildReply, CabinetReply, CheckReply, NextReply, PartReply, Reply, build_reply, check_reply,
-    next_reply, part_reply, reply_of,
-};
+use entries::Tables;
+use refusal::verdict_number;
+use replies::{BuildReply, CabinetReply, CheckReply, NextReply, PartReply, Reply, part_reply};
+use roots::WorkTables;
+use runs::Lists;
 
 mod symbols;
 
@@ -45,18 +47,13 @@ pub extern "C" fn lyndon_build(
         (lent previous.new next.new previous_match.new next_match.new tree.new))
         result }
 {
-    let no_symbols = [0u32; 0];
-    build_reply(build::build(
-        letters,
-        &no_symbols,
-        false,
-        rows,
+    let mut tables = Tables {
         previous,
         next,
         previous_match,
         next_match,
-        tree,
-    ))
+    };
+    build::build(letters, rows, &mut tables, tree).into()
 }
 
 #[unsafe(no_mangle)]
@@ -65,58 +62,56 @@ pub extern "C" fn lyndon_read(n: usize, tree: &[u8], previous: &mut [u32], next:
         (record { previous = previous.new; next = next.new })
         result }
 {
-    refusal::verdict_number(brackets::read(n, tree, previous, next))
+    verdict_number(brackets::read(n, tree, previous, next))
 }
 
 #[unsafe(no_mangle)]
 pub extern "C" fn lyndon_previous(n: usize, tree: &[u8], position: usize) -> Reply
     ensures { result ≡ reply (previous_answer n tree.now position) }
 {
-    reply_of(questions::previous_of(n, tree, position))
+    questions::previous_of(n, tree, position).into()
 }
 
 #[unsafe(no_mangle)]
 pub extern "C" fn lyndon_next(n: usize, tree: &[u8], position: usize) -> Reply
     ensures { result ≡ reply (next_answer n tree.now position) }
 {
-    reply_of(questions::next_of(n, tree, position))
+    questions::next_of(n, tree, position).into()
 }
 
 #[unsafe(no_mangle)]
 pub extern "C" fn lyndon_place(n: usize, tree: &[u8], position: usize) -> Reply
     ensures { result ≡ reply (place_answer n tree.now position) }
 {
-    reply_of(questions::place_of(n, tree, position))
+    questions::place_of(n, tree, position).into()
 }
 
 #[unsafe(no_mangle)]
 pub extern "C" fn lyndon_tree_string(n: usize, tree: &[u8], symbols: &mut [u32]) -> u32
     ensures { StringWritten n tree.now symbols.old symbols.new result }
 {
-    refusal::verdict_number(tree_string::write(n, tree, symbols))
+    verdict_number(tree_string::write(n, tree, symbols))
 }
 
 #[unsafe(no_mangle)]
 pub extern "C" fn lyndon_first_tree(size: usize, tree: &mut [u8]) -> u32
     ensures { FirstGiven size tree.old tree.new result }
 {
-    refusal::verdict_number(small_trees::first(size, tree))
+    verdict_number(small_trees::first(size, tree))
 }
 
 #[unsafe(no_mangle)]
 pub extern "C" fn lyndon_next_tree(size: usize, tree: &mut [u8]) -> NextReply
     ensures { Replied next_reply (NextGiven size tree.old tree.new) result }
 {
-    next_reply(small_trees::next(size, tree))
+    small_trees::next(size, tree).into()
 }
 
 #[unsafe(no_mangle)]
 pub extern "C" fn lyndon_word(letters: &[u8], position: usize) -> PartReply
     ensures { result ≡ word_reply (ranks letters.now) position }
 {
-    let mut refused = 0;
-    let part = word::word(letters, position, &mut refused);
-    part_reply(refused, position, part.len())
+    part_reply(position, word::word(letters, position))
 }
 
 #[unsafe(no_mangle)]
@@ -140,21 +135,20 @@ pub extern "C" fn lyndon_runs(
         (lists starts.new ends.new periods.new))
         result }
 {
-    let no_symbols = [0u32; 0];
-    reply_of(runs::report(
-        letters,
-        &no_symbols,
-        false,
-        work_1,
-        work_2,
-        work_3,
-        work_4,
-        work_5,
-        work_6,
+    let mut work = WorkTables {
+        previous: work_1,
+        next: work_2,
+        previous_match: work_3,
+        next_match: work_4,
+        reverse_next: work_5,
+        reverse_match: work_6,
+    };
+    let mut lists = Lists {
         starts,
         ends,
         periods,
-    ))
+    };
+    runs::report(letters, &mut work, &mut lists).into()
 }
 
 #[unsafe(no_mangle)]
@@ -172,47 +166,25 @@ pub extern "C" fn lyndon_check(
         (tables_of previous.new next.new previous_match.new next_match.new))
         result }
 {
-    let no_symbols = [0u32; 0];
-    check_reply(checker::check(
-        letters,
-        &no_symbols,
-        false,
-        claimed,
+    let mut work = Tables {
         previous,
         next,
         previous_match,
         next_match,
-    ))
+    };
+    checker::check(letters, claimed, &mut work).into()
 }
 
 #[unsafe(no_mangle)]
 pub extern "C" fn lyndon_cabinet_write(counts: &[u32], trees: &[u8], file: &mut [u8]) -> u32
     ensures { Written counts.now trees.now file.old file.new result }
 {
-    refusal::verdict_number(cabinet_writer::write(counts, trees, file))
+    verdict_number(cabinet_writer::write(counts, trees, file))
 }
 
 #[unsafe(no_mangle)]
 pub extern "C" fn lyndon_cabinet_read(file: &[u8], entry: usize) -> CabinetReply
     ensures { result ≡ cabinet_reply file.now entry }
 {
-    let mut refused = 0;
-    let mut mark = 0;
-    let mut letters = 0;
-    let mut place = 0;
-    let body = cabinet_reader::read(
-        file,
-        entry,
-        &mut refused,
-        &mut mark,
-        &mut letters,
-        &mut place,
-    );
-    CabinetReply {
-        refusal: refused,
-        mark,
-        letters,
-        start: place,
-        length: body.len(),
-    }
+    cabinet_reader::read(file, entry).into()
 }

@@ -6,9 +6,10 @@ ghost use Rattle.repeats.specs.Refusals.{lists};
 ghost use Rattle.runs.specs.Reported.{work_of, Reported};
 ghost use Rattle.replies.specs.Replies.{Replied, build_reply, reply, check_reply, word_reply};
 
-use replies::{
-    BuildReply, CheckReply, PartReply, Reply, build_reply, check_reply, part_reply, reply_of,
-};
+use entries::Tables;
+use replies::{BuildReply, CheckReply, PartReply, Reply, part_reply};
+use roots::WorkTables;
+use runs::Lists;
 
 #[unsafe(no_mangle)]
 pub extern "C" fn lyndon_build32(
@@ -26,27 +27,20 @@ pub extern "C" fn lyndon_build32(
         (lent previous.new next.new previous_match.new next_match.new tree.new))
         result }
 {
-    let no_letters = [0u8; 0];
-    build_reply(build::build(
-        &no_letters,
-        symbols,
-        true,
-        rows,
+    let mut tables = Tables {
         previous,
         next,
         previous_match,
         next_match,
-        tree,
-    ))
+    };
+    build::build(symbols, rows, &mut tables, tree).into()
 }
 
 #[unsafe(no_mangle)]
 pub extern "C" fn lyndon_word32(symbols: &[u32], position: usize) -> PartReply
     ensures { result ≡ word_reply symbols.now position }
 {
-    let mut refused = 0;
-    let part = word::word32(symbols, position, &mut refused);
-    part_reply(refused, position, part.len())
+    part_reply(position, word::word(symbols, position))
 }
 
 #[unsafe(no_mangle)]
@@ -70,21 +64,20 @@ pub extern "C" fn lyndon_runs32(
         (lists starts.new ends.new periods.new))
         result }
 {
-    let no_letters = [0u8; 0];
-    reply_of(runs::report(
-        &no_letters,
-        symbols,
-        true,
-        work_1,
-        work_2,
-        work_3,
-        work_4,
-        work_5,
-        work_6,
+    let mut work = WorkTables {
+        previous: work_1,
+        next: work_2,
+        previous_match: work_3,
+        next_match: work_4,
+        reverse_next: work_5,
+        reverse_match: work_6,
+    };
+    let mut lists = Lists {
         starts,
         ends,
         periods,
-    ))
+    };
+    runs::report(symbols, &mut work, &mut lists).into()
 }
 
 #[unsafe(no_mangle)]
@@ -102,15 +95,11 @@ pub extern "C" fn lyndon_check32(
         (tables_of previous.new next.new previous_match.new next_match.new))
         result }
 {
-    let no_letters = [0u8; 0];
-    check_reply(checker::check(
-        &no_letters,
-        symbols,
-        true,
-        claimed,
+    let mut work = Tables {
         previous,
         next,
         previous_match,
         next_match,
-    ))
+    };
+    checker::check(symbols, claimed, &mut work).into()
 }

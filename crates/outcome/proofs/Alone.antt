@@ -4,10 +4,9 @@ use mathlib.Core.List.{List}
 use Prim.Native.Nat.{ℕ}
 use native.Mathlib.Omega.{arith}
 use lib.ListN.{length}
+use Rattle.std.specs.Prelude.{Result, Ok, Err}
 use Rattle.suffix.specs.Rows.{Tables, tables_after}
 use Rattle.refusal.specs.declared.Refusal.{Refusal}
-use Rattle.refusal.specs.declared.Verdict.{Verdict}
-use Rattle.refusal.specs.declared.Verdict.TheVariants.{Accepted, Refused}
 use Rattle.refusal.specs.Numbers.{number_of}
 use Rattle.refusal.specs.Conditions.{tables_refusal}
 use Rattle.refusal.proofs.Numbers.{positive, unless_taken, unless_refused_lem}
@@ -28,16 +27,16 @@ refusal_at y t e = ap (λ n. tables_refusal n (length t.previous) (length t.next
 
 module _ (y : List ℕ) (before : Tables) where
   -- what is left over tables of n entries
-  pub whole : {after : Tables} {verdict : Verdict} → Lengths (length y) before → TablesBuilt y before after verdict → after ≡ tables_after y (length y)
+  pub whole : {after : Tables} {verdict : Result (Unit {0}) Refusal} → Lengths (length y) before → TablesBuilt y before after verdict → after ≡ tables_after y (length y)
   unfolding tables_refusal_of
   whole S B = B.leaves ∙ unless_taken _ _ _ (verdict.none_refused _ _ _ _ _ S)
 
-  pub refused : (k : Refusal) → number_of k ≡ tables_refusal_of y before → TablesBuilt y before before (Refused k)
+  pub refused : (k : Refusal) → number_of k ≡ tables_refusal_of y before → TablesBuilt y before before (Err k)
   refused k e = record { answers = e; leaves = sym (unless_refused_lem _ _ _ (λ z. omega (arith, positive k))) }
 
   module _ (n : ℕ) (long : length y ≡ n) (e : tables_refusal_of y before ≡ 0) (p : Progress) (after : Tables) (i : record { progress = p; tables = after } ≡ after_rows y n) where
     tables : after ≡ tables_after y (length y)
     tables = ap (λ (b : BuildState). b.tables) i ∙ (exact y n (omega arith)).tables ∙ ap (tables_after y) (sym long)
 
-    pub built : TablesBuilt y before after Accepted
+    pub built : TablesBuilt y before after (Ok tt)
     built = record { answers = sym e; leaves = tables ∙ sym (unless_taken _ _ _ e) }

@@ -1,6 +1,5 @@
 -- Each way out of a build answers, and leaves, what the definitions say.
 use mathlib.Core.Path.{◌≡◌, refl, ap, ◌∙◌}
-use mathlib.Core.Logic.{◌≢◌}
 use mathlib.Core.List.{List}
 use Prim.Native.Nat.{ℕ, ◌≤◌}
 use native.Mathlib.Omega.{arith}
@@ -16,7 +15,7 @@ use Rattle.refusal.proofs.Tables.{build_taken}
 use Rattle.reuse.specs.Steps.{Progress, BuildState, after_rows, equal_comparisons, unequal_comparisons}
 use Rattle.reuse.specs.Claims.{Exact}
 use Rattle.reuse.proofs.Exact.{exact}
-use Rattle.outcome.specs.declared.Built.TheVariants.{Refused}
+use Rattle.std.specs.Prelude.{Err}
 use Rattle.outcome.specs.Built.{Lent, lent_after, Figures, finished, halted, figures_of, figures_at, refusal_of, answer, lent_at_exit, BuiltExactly}
 
 -- what is lent and asked for n letters, where it is not refused
@@ -44,16 +43,6 @@ refusal_at y R before e =
     let t = before.tables in
     ap (λ n. build_refusal n R (length t.previous) (length t.next) (length t.previous_match) (length t.next_match) (length before.tree)) e
 
--- the two answers of a build that is not refused, by what is told of its figures
-module _ (n rows equal unequal reached : ℕ) {rows' equal' unequal' reached' : ℕ} where
-  pub at_n : rows ≡ n → rows' ≡ rows → equal' ≡ equal → unequal' ≡ unequal → reached' ≡ reached
-      → finished rows' equal' unequal' reached' ≡ figures_at n rows equal unequal reached
-  at_n e a b c d = rw (eq-eqb rows n e, figures_at, a, b, c, d)
-
-  pub before_n : rows ≢ n → rows' ≡ rows → equal' ≡ equal → unequal' ≡ unequal → reached' ≡ reached
-      → halted rows' equal' unequal' reached' ≡ figures_at n rows equal unequal reached
-  before_n e a b c d = rw (ne_eqb rows n e, figures_at, a, b, c, d)
-
 module _ (y : List ℕ) (R : ℕ) (before : Lent) where
   abbrev n : ℕ
   n = length y
@@ -63,7 +52,7 @@ module _ (y : List ℕ) (R : ℕ) (before : Lent) where
   unfolding lent_at_exit
   left_built e = rw (eq-eqb (refusal_of y R before) 0 e, lent_at_exit)
 
-  pub refused : (k : Refusal) → number_of k ≡ refusal_of y R before → BuiltExactly y R before before (figures_of (Refused k))
+  pub refused : (k : Refusal) → number_of k ≡ refusal_of y R before → BuiltExactly y R before before (figures_of (Err k))
   unfolding answer lent_at_exit
   refused k e =
       let ne = ne_eqb (refusal_of y R before) 0 (omega (arith, positive k)) in

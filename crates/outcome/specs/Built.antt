@@ -1,14 +1,14 @@
 -- Demand 3: what a build answers, and what it leaves in the memory that is lent to it.
-use Rattle.std.specs.Prelude.{◌≡◌, true, false, List, ℕ, eqb, length}
+use Rattle.std.specs.Prelude.{◌≡◌, true, false, List, ℕ, eqb, length, Result, Ok, Err}
 use Rattle.suffix.specs.Rows.{Tables, tables_after, reach}
 use Rattle.suffix.specs.Tree.{tree_bytes}
-use Rattle.refusal.specs.declared.Verdict.{Verdict}
+use Rattle.refusal.specs.declared.Refusal.{Refusal}
 use Rattle.refusal.specs.Numbers.{number_of, verdict_number, unless_refused}
 use Rattle.refusal.specs.Conditions.{build_refusal, tables_refusal}
 use Rattle.reuse.specs.Steps.{equal_comparisons, unequal_comparisons}
 use Rattle.reuse.specs.Claims.{Bounded}
 use Rattle.outcome.specs.declared.Built.{Built}
-use Rattle.outcome.specs.declared.Built.TheVariants.{Finished, Halted, Refused}
+use Rattle.outcome.specs.declared.Built.TheVariants.{Finished, Halted}
 
 abbrev pub tables_of : List ℕ → List ℕ → List ℕ → List ℕ → Tables
 tables_of previous next previous_match next_match = record { previous = previous; next = next; previous_match = previous_match; next_match = next_match }
@@ -32,10 +32,10 @@ pub data Figures : Type 0 where
   halted : (rows equal unequal reach : ℕ) → Figures
   refused : (number : ℕ) → Figures
 
-abbrev pub figures_of : Built → Figures
-figures_of (Finished r) = finished r.rows r.equal r.unequal r.reach
-figures_of (Halted r) = halted r.rows r.equal r.unequal r.reach
-figures_of (Refused k) = refused (number_of k)
+abbrev pub figures_of : Result Built Refusal → Figures
+figures_of (Ok (Finished r)) = finished r.rows r.equal r.unequal r.reach
+figures_of (Ok (Halted r)) = halted r.rows r.equal r.unequal r.reach
+figures_of (Err k) = refused (number_of k)
 
 -- the figures of a build of n letters or symbols that is not refused
 abbrev pub figures_at : (n rows equal unequal reach : ℕ) → Figures
@@ -71,6 +71,6 @@ pub record BuiltExactly (y : List ℕ) (R : ℕ) (before after : Lent) (figures 
 unfoldable pub tables_refusal_of : List ℕ → Tables → ℕ
 tables_refusal_of y t = tables_refusal (length y) (length t.previous) (length t.next) (length t.previous_match) (length t.next_match)
 
-pub record TablesBuilt (y : List ℕ) (before after : Tables) (verdict : Verdict) : Type 0 where
+pub record TablesBuilt (y : List ℕ) (before after : Tables) (verdict : Result (Unit {0}) Refusal) : Type 0 where
   pub answers : verdict_number verdict ≡ tables_refusal_of y before
   pub leaves : after ≡ unless_refused (tables_refusal_of y before) (tables_after y (length y)) before

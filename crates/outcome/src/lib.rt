@@ -1,10 +1,8 @@
 // What a build answers.
 #![tactic(auto)]
 
-ghost use Rattle.std.specs.Prelude.{◌≡◌};
+ghost use Rattle.std.specs.Prelude.{◌≡◌, Ok};
 ghost use Rattle.outcome.specs.Built.{figures_of, figures_at};
-
-use refusal::Refusal;
 
 // The figures of a build that is not refused.
 #[derive(Clone, Copy)]
@@ -19,21 +17,15 @@ pub struct Report {
 pub enum Built {
     Finished(Report),
     Halted(Report),
-    Refused(Refusal),
 }
 
-// The answer of a build of n letters or symbols that is not refused.
-pub fn answer(n: usize, rows: usize, equal: usize, unequal: usize, reach: usize) -> Built
-    ensures { figures_of result ≡ figures_at n rows equal unequal reach }
+// The answer of a build of n letters that is not refused.
+pub fn answer(n: usize, report: Report) -> Built
+    ensures { figures_of (Ok result) ≡ figures_at n report.rows report.equal report.unequal report.reach }
 {
-    let report = Report {
-        rows,
-        equal,
-        unequal,
-        reach,
-    };
-    if rows == n {
-        return Built::Finished(report);
+    if report.rows == n {
+        Built::Finished(report)
+    } else {
+        Built::Halted(report)
     }
-    Built::Halted(report)
 }

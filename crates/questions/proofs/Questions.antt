@@ -12,14 +12,18 @@ use Rattle.suffix.proofs.Cases.{Test, holds, fails, test, le_unless, both_true}
 use Rattle.suffix.proofs.Search.{Least, found, absent, least}
 use Rattle.refusal.specs.Conditions.{bit_of, openings, flaw_number, question_refusal}
 use Rattle.shape.specs.Shape.{previous_table, next_table}
-use Rattle.refusal.specs.Answers.{value}
-use Rattle.questions.specs.Answers.{place_of, place_answer}
+use Rattle.std.specs.Prelude.{Err}
+use Rattle.refusal.specs.declared.Refusal.{Refusal}
+use Rattle.refusal.specs.Numbers.{number_of}
+use Rattle.refusal.specs.Answers.{value, refused}
+use Rattle.questions.specs.Answers.{place_of, place_answer, next_answer, previous_answer}
+use Rattle.search.specs.Searching.{forward_found, backward_found}
 use Rattle.search.specs.declared.Found.{Found}
 use Rattle.shape.proofs.Heights.{opened, opens, opened_grows, opening_one, Entry, ClosedAt, Encloses, by, root, closed_once, enclosed_once}
 use Rattle.shape.proofs.Reading.{Balanced}
 use Rattle.shape.proofs.Entries.{table_entry}
-use Rattle.refusal.proofs.Answers.{answered_told}
-use Rattle.search.proofs.Laws.{TellsOn, TellsBack, fell, ended}
+use Rattle.refusal.proofs.Answers.{answered_told, answered_value, refused_alike}
+use Rattle.search.proofs.Laws.{TellsOn, TellsBack, fell, ended, forward_tells, backward_tells}
 use Rattle.shape.proofs.Conditions.{sound, question_1, question_3, question_5, question_flaw}
 
 -- a question that is not refused
@@ -124,3 +128,49 @@ placed n t i k h = record { asked = a; is_open = rw e E.opening.is_open; number 
 
     e : k ≡ E.place
     e = (answered_told (question_refusal n t i) (place_of n t i) k h).1 ∙ place_is n t i a.whole a.inside E.place E.opening.is_open E.opening.number
+
+-- a refused question of one kind is refused as one of another
+pub next_refused : (n : ℕ) (t : List ℕ) (i : ℕ) (k : Refusal) → refused (number_of k) ≡ place_answer n t i → refused (number_of k) ≡ next_answer n t i
+unfolding place_answer next_answer
+next_refused n t i k e = refused_alike (Err k) (question_refusal n t i) (place_of n t i) (get_or (next_table n t) i 0) refl e
+
+pub previous_refused : (n : ℕ) (t : List ℕ) (i : ℕ) (k : Refusal) → refused (number_of k) ≡ place_answer n t i → refused (number_of k) ≡ previous_answer n t i
+unfolding place_answer previous_answer
+previous_refused n t i k e = refused_alike (Err k) (question_refusal n t i) (place_of n t i) (get_or (previous_table n t) i 0) refl e
+
+-- an opening of that number is the place asked for
+pub place_answered : {n : ℕ} {t : List ℕ} {i k : ℕ} → Allowed n t i → bit_of t k ≡ true → opened (bit_of t) k ≡ i → value k ≡ place_answer n t i
+unfolding place_answer
+place_answered {n} {t} {i} {k} A bit number =
+    ap value (sym (place_is n t i A.whole A.inside k bit number)) ∙ answered_value (question_refusal n t i) (place_of n t i) A.none
+
+-- what the searches from a place give
+module _ {n : ℕ} {t : List ℕ} {i k : ℕ} (P : Placed n t i k) where
+  pub next_answered : {r : Found} → r ≡ forward_found t (k + 1) (2 * n) → (k ≤ r.at) × (r.at ≤ 2 * n) × (value (i + (r.at - k) / 2) ≡ next_answer n t i)
+  unfolding next_answer
+  next_answered q =
+      let A = P.asked in
+      let tells : TellsOn (bit_of t) (k + 1) 0 (2 * n) _ =
+      forward_tells t (k + 1) (2 * n) (record { few = omega (arith, A.small, A.bytes); inside = omega (arith, A.bytes); ordered = omega (arith, P.low) }) q in
+      let x = next_found n t i A.whole A.inside k P.is_open P.number tells in
+      (x.0, x.1, ap value x.2 ∙ answered_value (question_refusal n t i) (get_or (next_table n t) i 0) A.none)
+
+  tells : {r : Found} → r ≡ backward_found t k → TellsBack (bit_of t) k 0 r
+  tells q =
+      let A = P.asked in
+      backward_tells t k (record { few = omega (arith, A.small, A.bytes); inside = omega (arith, P.low, A.bytes); ordered = omega arith }) q
+
+  pub previous_answered : {r : Found} → r ≡ backward_found t k → r.fell ≡ true
+      → (r.at ≤ k) × ((k - r.at + 1) / 2 ≤ i) × (value (i - (k - r.at + 1) / 2) ≡ previous_answer n t i)
+  unfolding previous_answer
+  previous_answered q m =
+      let A = P.asked in
+      let x = previous_found n t i A.whole A.inside k P.is_open P.number (tells q) m in
+      (x.0, x.1, ap value x.2 ∙ answered_value (question_refusal n t i) (get_or (previous_table n t) i 0) A.none)
+
+  pub root_answered : {r : Found} → r ≡ backward_found t k → r.fell ≡ false → value n ≡ previous_answer n t i
+  unfolding previous_answer
+  root_answered q m =
+      let A = P.asked in
+      ap value (previous_none n t i A.whole A.inside k P.is_open P.number (tells q) m)
+      ∙ answered_value (question_refusal n t i) (get_or (previous_table n t) i 0) A.none

@@ -1,14 +1,14 @@
 -- Ranks in their order, and in the reverse one; strings of letters and of symbols.
 use mathlib.Core.Path.{◌≡◌, refl}
 use mathlib.Core.Logic.{inl, inr}
-use mathlib.Core.Bool.{Bool, true, false, true≢false, false≢true}
+use mathlib.Core.Bool.{Bool, true, false}
 use mathlib.Core.List.{List, [], ◌∷◌}
 use Prim.Native.Nat.{ℕ, zero, suc, ◌+◌, ◌-◌, ◌≤◌, ◌<◌}
 use native.Mathlib.Omega.{arith}
 use lib.ListN.{length, get_or, drop, length-map}
 use borrow.Author.Tests.{le-leb, lt-leb}
 use Rattle.suffix.proofs.Cases.{Tri, lt, eq, gt, tri}
-use Rattle.ranks.specs.Ranks.{rank, ranks, string_of, greatest_rank, oriented_from, oriented, oriented_rank}
+use Rattle.ranks.specs.Ranks.{rank, ranks, greatest_rank, oriented_from, oriented, oriented_rank}
 use Rattle.ranks.specs.Claims.{NotSmall}
 
 -- by computation, on both sides of each bound
@@ -80,43 +80,3 @@ reversed_entry top (x ∷ y) (suc i) h = reversed_entry top y i (omega arith)
 pub oriented_entry : (reverse : Bool) (y : List ℕ) (i : ℕ) → i < length y → get_or (oriented reverse y) i 0 ≡ oriented_rank reverse (get_or y i 0)
 oriented_entry false y i h = refl
 oriented_entry true y i h = reversed_entry greatest_rank y i h
-
--- ---- strings of either width
-
-pub symbols_long : (wide : Bool) (letters symbols : List ℕ) → wide ≡ true → length (string_of wide letters symbols) ≡ length symbols
-symbols_long true letters symbols e = refl
-symbols_long false letters symbols e = absurd (false≢true e)
-
-pub letters_long : (wide : Bool) (letters symbols : List ℕ) → wide ≡ false → length (string_of wide letters symbols) ≡ length letters
-letters_long true letters symbols e = absurd (true≢false e)
-letters_long false letters symbols e = ranks_length letters
-
--- symbols of 32 bits are ranks, and so are the ranks of bytes
-pub string_most : (wide : Bool) (letters symbols : List ℕ) → ((i : ℕ) → i < length letters → get_or letters i 0 < 256) → ((i : ℕ) → i < length symbols → get_or symbols i 0 < 4294967296)
-    → (i : ℕ) → i < length (string_of wide letters symbols) → get_or (string_of wide letters symbols) i 0 ≤ greatest_rank
-string_most false letters symbols bytes words i h = ranks_most letters bytes i h
-string_most true letters symbols bytes words i h = omega (arith, words i h)
-
--- two places of a string, which is of symbols or of letters, and the ranks there
-pub record AtSymbols (wide : Bool) (letters symbols : List ℕ) (a b : ℕ) : Type 0 where
-  pub inside_a : a < length symbols
-  pub inside_b : b < length symbols
-  pub rank_a : get_or (string_of wide letters symbols) a 0 ≡ get_or symbols a 0
-  pub rank_b : get_or (string_of wide letters symbols) b 0 ≡ get_or symbols b 0
-
-pub record AtLetters (wide : Bool) (letters symbols : List ℕ) (a b : ℕ) : Type 0 where
-  pub inside_a : a < length letters
-  pub inside_b : b < length letters
-  pub rank_a : get_or (string_of wide letters symbols) a 0 ≡ rank (get_or letters a 0)
-  pub rank_b : get_or (string_of wide letters symbols) b 0 ≡ rank (get_or letters b 0)
-
-module _ {wide : Bool} {letters symbols : List ℕ} {a b : ℕ}
-    (h : (a < length (string_of wide letters symbols)) × (b < length (string_of wide letters symbols))) where
-  pub at_symbols : wide ≡ true → AtSymbols wide letters symbols a b
-  at_symbols e = record { inside_a = rw e at h.0; inside_b = rw e at h.1; rank_a = rw e; rank_b = rw e }
-
-  pub at_letters : wide ≡ false → AtLetters wide letters symbols a b
-  at_letters e =
-      let x : a < length letters = omega (arith, ranks_length letters, rw e at h.0) in
-      let z : b < length letters = omega (arith, ranks_length letters, rw e at h.1) in
-      record { inside_a = x; inside_b = z; rank_a = rw e (ranks_entry letters a x); rank_b = rw e (ranks_entry letters b z) }

@@ -1,6 +1,6 @@
 -- Document 01, "What the house files, and what it doesn't": "Letters compare by their byte value, unsigned.", as document 02 amends it: T-04 by masked letters, T-07 by
 -- symbols of 32 bits.
-use Rattle.std.specs.Prelude.{Bool, true, false, ◌&&◌, List, map, ℕ, ◌+◌, ◌-◌, leb}
+use Rattle.std.specs.Prelude.{Bool, true, false, ◌&&◌, List, map, ℕ, ◌+◌, ◌-◌, ◌≤◌, ◌<◌, leb, length, get_or}
 
 -- the number by which a letter compares: "bytes 97 to 122 compare as 65 to 90; all other bytes keep their value."
 unfoldable pub rank : ℕ → ℕ
@@ -11,8 +11,11 @@ rank letter = elim (leb 97 letter && leb letter 122) [ true ↦ 65 + (letter - 9
 abbrev pub ranks : List ℕ → List ℕ
 ranks letters = map rank letters
 
--- Document 02, T-07: a string of either width. It is of letters, or where `wide` is true of symbols, "32-bit unsigned numbers": "Symbols compare as
--- numbers, with no masking.", so they are their own ranks.
+-- Document 02, T-07: symbols are "32-bit unsigned numbers": "Symbols compare as numbers, with no masking.", so they are their own ranks.
+abbrev pub symbol_rank : ℕ → ℕ
+symbol_rank symbol = symbol
+
+-- a string of either width: it is of letters, or where `wide` is true of symbols
 abbrev pub string_of : (wide : Bool) → (letters symbols : List ℕ) → List ℕ
 string_of false letters symbols = ranks letters
 string_of true letters symbols = symbols
@@ -29,6 +32,10 @@ greatest_rank = 4294967295
 
 abbrev pub oriented : (reverse : Bool) → List ℕ → List ℕ
 oriented reverse y = oriented_from greatest_rank reverse y
+
+-- ranks that 32 bits hold
+abbrev pub AllFit : List ℕ → Type 0
+AllFit y = (i : ℕ) → i < length y → get_or y i 0 ≤ greatest_rank
 
 -- one rank in that order
 abbrev pub oriented_rank : (reverse : Bool) → ℕ → ℕ

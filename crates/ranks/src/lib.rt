@@ -1,31 +1,78 @@
-// Ranks, the numbers by which letters and symbols compare, and the length of a string of either width.
+// Ranks, the numbers by which letters and symbols compare.
 #![tactic(auto)]
 
-ghost use Rattle.std.specs.Prelude.{◌≡◌, eqb, length};
-ghost use Rattle.ranks.specs.Ranks.{rank, oriented_rank, string_of};
+ghost use Rattle.std.specs.Prelude.{◌≡◌, ◌<◌, ℕ, eqb, length, get_or, map};
+ghost use Rattle.ranks.specs.Ranks.{rank, symbol_rank, oriented_rank, AllFit};
 
-// The number by which a letter compares: small letters compare as capitals.
-pub fn rank(letter: u8) -> u32
-    ensures { result ≡ rank letter }
-{
-    let value = letter as u32;
-    if 97 <= value {
-        if value <= 122 {
-            return value - 32;
-        }
-    }
-    value
+// What a string is of: letters of one byte, or symbols of 32 bits.
+pub trait Letter: Copy {
+    // The number by which a letter compares.
+    ghost rank: { Self → ℕ };
+
+    fn rank(self) -> u32
+        ensures { result ≡ rank self };
+
+    // Whether two letters compare as equal.
+    fn is_same(self, other: Self) -> bool
+        ensures { result ≡ eqb (rank self) (rank other) };
+
+    // The ranks of a string fit in 32 bits.
+    fn fit(string: &[Self])
+        ensures { AllFit (map rank string.now) };
 }
 
-// Whether two letters compare as equal.
-pub fn same_rank(x: u8, y: u8) -> bool
-    ensures { result ≡ eqb (rank x) (rank y) }
-{
-    // equal letters have equal ranks
-    if x == y {
-        return true;
+// Small letters compare as capitals.
+impl Letter for u8 {
+    ghost rank = { rank };
+
+    #[tactic(auto, using(crate::proofs::Masking::rank_small, crate::proofs::Masking::rank_other))]
+    fn rank(self) -> u32 {
+        let value = self as u32;
+        if self.is_ascii_lowercase() {
+            value - 32
+        } else {
+            value
+        }
     }
-    rank(x) == rank(y)
+
+    fn is_same(self, other: u8) -> bool {
+        // equal letters have equal ranks
+        self == other || self.rank() == other.rank()
+    }
+
+    #[tactic(auto, using(crate::proofs::Ranks::ranks_most))]
+    fn fit(string: &[u8]) {}
+}
+
+// Symbols compare as numbers.
+impl Letter for u32 {
+    ghost rank = { symbol_rank };
+
+    fn rank(self) -> u32 {
+        self
+    }
+
+    fn is_same(self, other: u32) -> bool {
+        self == other
+    }
+
+    fn fit(string: &[u32]) {}
+}
+
+// The rank of the letter at a place of a string.
+pub fn rank_at<S: Letter>(string: &[S], i: usize) -> u32
+    requires { i < length string.now }
+    ensures { result ≡ get_or (map S.rank string.now) i 0 }
+{
+    string[i].rank()
+}
+
+// Whether the letters at two places compare as equal.
+pub fn same_at<S: Letter>(string: &[S], a: usize, b: usize) -> bool
+    requires { (a < length string.now) × (b < length string.now) }
+    ensures { result ≡ eqb (get_or (map S.rank string.now) a 0) (get_or (map S.rank string.now) b 0) }
+{
+    string[a].is_same(string[b])
 }
 
 // A rank in the order of the ranks, or in its reverse.
@@ -36,14 +83,4 @@ pub fn orient(rank: u32, reverse: bool) -> u32
         return 4294967295 - rank;
     }
     rank
-}
-
-// How many letters a string has, or symbols where it is of symbols.
-pub fn string_length(letters: &[u8], symbols: &[u32], wide: bool) -> usize
-    ensures { result ≡ length (string_of wide letters.now symbols.now) }
-{
-    if wide {
-        return symbols.len();
-    }
-    letters.len()
 }

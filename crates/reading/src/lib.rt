@@ -11,6 +11,7 @@ pub fn read_full<R: Read>(reader: &mut R, buffer: &mut [u8]) -> usize
     ensures len { length buffer.new ≡ length buffer.old }
 {
     let mut n = 0;
+    // no `for`: how far a read goes is known after it; `read_exact` does not tell how much came before the end
     while n < buffer.len() {
         let more = reader.read(&mut buffer[n..]).unwrap_or(0);
         if more == 0 {

@@ -8,8 +8,7 @@ use Rattle.refusal.specs.Numbers.{number_of}
 use Rattle.refusal.proofs.Numbers.{positive, unless_taken, unless_refused_lem}
 use Rattle.refusal.specs.declared.Refusal.{Refusal}
 use Rattle.refusal.specs.Answers.{Figures, value, refused, figures_of, answered}
-use Rattle.refusal.specs.declared.Answer.{Answer}
-use Rattle.refusal.specs.declared.Answer.TheVariants.{NoValue}
+use Rattle.std.specs.Prelude.{Result, Err}
 
 module _ (number v : ℕ) where
   pub answered_value : number ≡ 0 → value v ≡ answered number v
@@ -35,7 +34,7 @@ answered_told number v k h = go (same? number 0)
     go (other e) = absurd (true≢false (ap is_value (h ∙ unless_refused_lem number (value v) (refused number) e)))
 
 -- the same refusal of another question
-pub refused_alike : (a : Answer) (number v w : ℕ) {k : Refusal} → a ≡ NoValue k → figures_of a ≡ answered number v → figures_of a ≡ answered number w
+pub refused_alike : (a : Result ℕ Refusal) (number v w : ℕ) {k : Refusal} → a ≡ Err k → figures_of a ≡ answered number v → figures_of a ≡ answered number w
 refused_alike a number v w {k} e h = rw e (go (same? number 0) (rw e at h))
   where
     go : Same number 0 → refused (number_of k) ≡ answered number v → refused (number_of k) ≡ answered number w

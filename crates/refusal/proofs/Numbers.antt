@@ -1,5 +1,5 @@
 -- What a returned number says of the conditions, and a verdict's case of its number.
-use mathlib.Core.Path.{◌≡◌, refl, sym, ap, ◌∙◌}
+use mathlib.Core.Path.{◌≡◌, refl, sym, ◌∙◌}
 use mathlib.Core.Logic.{◌≢◌}
 use mathlib.Core.Bool.{Bool, true, false, ◌||◌, true≢false}
 use mathlib.Core.List.{List, [], ◌∷◌}
@@ -12,9 +12,7 @@ use Rattle.suffix.proofs.Cases.{Same, same, other, same?}
 use Rattle.suffix.proofs.Search.{tabulate_length, tabulate_entry}
 use Rattle.refusal.specs.declared.Refusal.{Refusal}
 use Rattle.refusal.specs.declared.Refusal.TheVariants.{TooLong, TableLength, TreeLength, TooManyRows, PositionOutside, SpareBitSet, ClosedTooEarly, LeftOpen, NotMarked, TooManyEntries, WrongContents, ListLengths, TooManyRuns, SizeOutside}
-use Rattle.refusal.specs.declared.Verdict.{Verdict}
-use Rattle.refusal.specs.declared.Verdict.TheVariants.{Accepted, Refused}
-use Rattle.refusal.specs.Numbers.{number_of, lowest_from, first_of, unless_refused, number_if, verdict_number}
+use Rattle.refusal.specs.Numbers.{number_of, lowest_from, first_of, unless_refused, number_if}
 
 -- 0 is no refusal's number
 pub positive : (k : Refusal) → 0 < number_of k
@@ -111,10 +109,3 @@ module _ {A : Type 0} (number : ℕ) (a other : A) where
 pub nothing_found : (b : Bool) (k : Refusal) → number_if b k ≡ 0 → b ≡ false
 nothing_found true k e = absurd (omega (arith, positive k))
 nothing_found false k e = refl
-
--- a verdict by its case
-pub accepted_of : (v : Verdict) → v ≡ Accepted → verdict_number v ≡ 0
-accepted_of v e = ap verdict_number e
-
-pub refused_of : (v : Verdict) {k : Refusal} → v ≡ Refused k → verdict_number v ≢ 0
-refused_of v {k} e = rw e (λ z. omega (arith, positive k))

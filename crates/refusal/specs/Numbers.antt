@@ -1,9 +1,7 @@
 -- Document 01, "Who can cause which refusal", and document 02: the number of each refusal, and which one is returned.
-use Rattle.std.specs.Prelude.{Bool, true, false, List, [], ◌∷◌, ℕ, suc, eqb}
+use Rattle.std.specs.Prelude.{Bool, true, false, List, [], ◌∷◌, ℕ, suc, eqb, Result, Ok, Err}
 use Rattle.refusal.specs.declared.Refusal.{Refusal}
 use Rattle.refusal.specs.declared.Refusal.TheVariants.{TooLong, TableLength, TreeLength, TooManyRows, PositionOutside, SpareBitSet, ClosedTooEarly, LeftOpen, NotMarked, TooManyEntries, WrongContents, ListLengths, TooManyRuns, SizeOutside}
-use Rattle.refusal.specs.declared.Verdict.{Verdict}
-use Rattle.refusal.specs.declared.Verdict.TheVariants.{Accepted, Refused}
 
 -- "1: n above 1,000,000." to "8: no such place, but not all are closed."; T-01: "10 for a count above 64; 11 where the contents are cut
 -- short" and the rest of that sentence; T-03: "12 where the three lists differ in length, and 13 exactly where there are more runs than entries";
@@ -25,9 +23,9 @@ number_of TooManyRuns = 13
 number_of SizeOutside = 14
 
 -- the number of a verdict: 0 where nothing is refused
-abbrev pub verdict_number : Verdict → ℕ
-verdict_number Accepted = 0
-verdict_number (Refused k) = number_of k
+abbrev pub verdict_number : Result (Unit {0}) Refusal → ℕ
+verdict_number (Ok accepted) = 0
+verdict_number (Err k) = number_of k
 
 -- "The lowest number that applies is returned, and none is returned otherwise." The conditions stand in the order of their
 -- numbers, the first of them having number k; 0 is none.

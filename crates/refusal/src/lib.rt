@@ -7,67 +7,40 @@ ghost use Rattle.refusal.specs.Conditions.{build_refusal, tables_refusal};
 
 use suffix::tree_length;
 
-#[derive(Clone, Copy)]
+#[derive(Clone, Copy, Debug, PartialEq, Eq)]
 pub enum Refusal {
-    TooLong,
-    TableLength,
-    TreeLength,
-    TooManyRows,
-    PositionOutside,
-    SpareBitSet,
-    ClosedTooEarly,
-    LeftOpen,
-    NotMarked,
-    TooManyEntries,
-    WrongContents,
-    ListLengths,
-    TooManyRuns,
-    SizeOutside,
-}
-
-// A number that is asked for, or why there is none.
-#[derive(Clone, Copy)]
-pub enum Answer {
-    Value(usize),
-    NoValue(Refusal),
-}
-
-// Whether an operation takes what it is given.
-#[derive(Clone, Copy)]
-pub enum Verdict {
-    Accepted,
-    Refused(Refusal),
+    TooLong = 1,
+    TableLength = 2,
+    TreeLength = 3,
+    TooManyRows = 4,
+    PositionOutside = 5,
+    SpareBitSet = 6,
+    ClosedTooEarly = 7,
+    LeftOpen = 8,
+    NotMarked = 9,
+    TooManyEntries = 10,
+    WrongContents = 11,
+    ListLengths = 12,
+    TooManyRuns = 13,
+    SizeOutside = 14,
 }
 
 // The document's number of a refusal.
-pub fn number(refusal: Refusal) -> u32
-    ensures { result ≡ number_of refusal }
-{
-    match refusal {
-        Refusal::TooLong => 1,
-        Refusal::TableLength => 2,
-        Refusal::TreeLength => 3,
-        Refusal::TooManyRows => 4,
-        Refusal::PositionOutside => 5,
-        Refusal::SpareBitSet => 6,
-        Refusal::ClosedTooEarly => 7,
-        Refusal::LeftOpen => 8,
-        Refusal::NotMarked => 9,
-        Refusal::TooManyEntries => 10,
-        Refusal::WrongContents => 11,
-        Refusal::ListLengths => 12,
-        Refusal::TooManyRuns => 13,
-        Refusal::SizeOutside => 14,
+impl From<Refusal> for u32 {
+    ghost from_gives = { λ refusal number. number ≡ number_of refusal };
+
+    fn from(refusal: Refusal) -> u32 {
+        refusal as u32
     }
 }
 
 // The number of a verdict: 0 where nothing is refused.
-pub fn verdict_number(verdict: Verdict) -> u32
+pub fn verdict_number(verdict: Result<(), Refusal>) -> u32
     ensures { result ≡ verdict_number verdict }
 {
     match verdict {
-        Verdict::Accepted => 0,
-        Verdict::Refused(k) => number(k),
+        Ok(()) => 0,
+        Err(refusal) => refusal.into(),
     }
 }
 
@@ -78,16 +51,16 @@ pub fn tables_verdict(
     next: usize,
     previous_match: usize,
     next_match: usize,
-) -> Verdict
+) -> Result<(), Refusal>
     ensures { verdict_number result ≡ tables_refusal n previous next previous_match next_match }
 {
     if n > 1000000 {
-        return Verdict::Refused(Refusal::TooLong);
+        return Err(Refusal::TooLong);
     }
     if previous != n || next != n || previous_match != n || next_match != n {
-        return Verdict::Refused(Refusal::TableLength);
+        return Err(Refusal::TableLength);
     }
-    Verdict::Accepted
+    Ok(())
 }
 
 // The verdict on a build of so many rows of n letters, over tables and a tree of these lengths.
@@ -99,18 +72,15 @@ pub fn build_verdict(
     previous_match: usize,
     next_match: usize,
     tree: usize,
-) -> Verdict
+) -> Result<(), Refusal>
     ensures { verdict_number result ≡ build_refusal n rows previous next previous_match next_match tree }
 {
-    let tables = tables_verdict(n, previous, next, previous_match, next_match);
-    if let Verdict::Refused(refusal) = tables {
-        return Verdict::Refused(refusal);
-    }
+    tables_verdict(n, previous, next, previous_match, next_match)?;
     if tree != tree_length(n) {
-        return Verdict::Refused(Refusal::TreeLength);
+        return Err(Refusal::TreeLength);
     }
     if rows > n {
-        return Verdict::Refused(Refusal::TooManyRows);
+        return Err(Refusal::TooManyRows);
     }
-    Verdict::Accepted
+    Ok(())
 }

@@ -1,13 +1,18 @@
 -- The replies of the exported functions: the figures of the answers' definitions, field by field.
-use Rattle.std.specs.Prelude.{◌≡◌, true, false, List, ℕ, eqb, length}
+use Rattle.std.specs.Prelude.{◌≡◌, true, false, List, ℕ, eqb, length, Result, Ok, Err}
+use Rattle.std.specs.Borrow.{Bor}
 use Rattle.suffix.specs.Lyndon.{longest_lyndon}
+use Rattle.refusal.specs.declared.Refusal.{Refusal}
+use Rattle.refusal.specs.Numbers.{number_of}
 use Rattle.refusal.specs.Conditions.{word_refusal}
 use Rattle.outcome.specs.Built as build
 use Rattle.checker.specs.Checked as checker
 use Rattle.small_trees.specs.Answers as small_trees
 use Rattle.refusal.specs.Answers as refusal
+use Rattle.cabinet.specs.File.{mark_number}
 use Rattle.cabinet.specs.Refusals.{read_refusal}
 use Rattle.cabinet.specs.Answers.{read_body, read_place, read_letters, read_mark}
+use Rattle.cabinet_reader.specs.declared.Entry.{Entry}
 use Rattle.replies.specs.declared.BuildReply.{BuildReply}
 use Rattle.replies.specs.declared.Reply.{Reply}
 use Rattle.replies.specs.declared.NextReply.{NextReply}
@@ -53,6 +58,15 @@ part_reply refusal position length =
 -- the longest Lyndon word of the string y at the position, counted in letters or symbols
 abbrev pub word_reply : List ℕ → ℕ → PartReply
 word_reply y position = part_reply (word_refusal (length y) position) position (longest_lyndon y position)
+
+-- what is given of a part as a function hands it on, and of an entry: of a refusal its number alone
+abbrev pub part_of : {S : Type 0} → ℕ → Result (Bor (List S)) Refusal → PartReply
+part_of position (Ok part) = record { refusal = 0; start = position; length = length part.now }
+part_of position (Err refusal) = record { refusal = number_of refusal; start = 0; length = 0 }
+
+abbrev pub entry_reply : Result Entry Refusal → CabinetReply
+entry_reply (Ok entry) = record { refusal = 0; mark = mark_number entry.mark; letters = entry.letters; start = entry.place; length = length entry.body.now }
+entry_reply (Err refusal) = record { refusal = number_of refusal; mark = 0; letters = 0; start = 0; length = 0 }
 
 -- reading a cabinet file: the mark met, the entry's letter count, where its body starts in the file, and the body's length
 abbrev pub cabinet_reply : List ℕ → ℕ → CabinetReply

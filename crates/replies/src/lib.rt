@@ -1,4 +1,4 @@
-// The version of the exported functions, the structures that they return, and the replies that carry an answer's figures.
+// The version of the exported functions, the structures that they return, and how these are made of the answers.
 #![tactic(auto)]
 
 ghost use Rattle.std.specs.Prelude.{◌≡◌};
@@ -7,11 +7,11 @@ ghost use Rattle.checker.specs.Checked.{finding_of};
 ghost use Rattle.refusal.specs.Answers.{figures_of};
 ghost use Rattle.small_trees.specs.Answers.{going_of};
 ghost use Rattle.replies.specs.Version.{interface_version};
-ghost use Rattle.replies.specs.Replies.{build_reply, reply, next_reply, check_reply, part_reply};
+ghost use Rattle.replies.specs.Replies.{build_reply, reply, next_reply, check_reply, part_of, entry_reply};
 
-use checker::Checked;
+use cabinet_reader::Entry;
 use outcome::Built;
-use refusal::Answer;
+use refusal::Refusal;
 use small_trees::Step;
 
 // LYNDON_VERSION of the header.
@@ -34,6 +34,39 @@ pub struct BuildReply {
     pub reach: usize,
 }
 
+impl From<Result<Built, Refusal>> for BuildReply {
+    ghost from_gives = { λ built given. given ≡ build_reply (built_figures built) };
+
+    fn from(built: Result<Built, Refusal>) -> BuildReply {
+        match built {
+            Ok(Built::Finished(k)) => BuildReply {
+                refusal: 0,
+                finished: 1,
+                rows: k.rows,
+                equal: k.equal,
+                unequal: k.unequal,
+                reach: k.reach,
+            },
+            Ok(Built::Halted(k)) => BuildReply {
+                refusal: 0,
+                finished: 0,
+                rows: k.rows,
+                equal: k.equal,
+                unequal: k.unequal,
+                reach: k.reach,
+            },
+            Err(refusal) => BuildReply {
+                refusal: refusal.into(),
+                finished: 0,
+                rows: 0,
+                equal: 0,
+                unequal: 0,
+                reach: 0,
+            },
+        }
+    }
+}
+
 #[repr(C)]
 #[derive(Clone, Copy)]
 pub struct Reply {
@@ -41,11 +74,47 @@ pub struct Reply {
     pub value: usize,
 }
 
+impl From<Result<usize, Refusal>> for Reply {
+    ghost from_gives = { λ answer given. given ≡ reply (figures_of answer) };
+
+    #[tactic(auto, unfolding(crate::specs::Replies::reply))]
+    fn from(answer: Result<usize, Refusal>) -> Reply {
+        match answer {
+            Ok(value) => Reply { refusal: 0, value },
+            Err(refusal) => Reply {
+                refusal: refusal.into(),
+                value: 0,
+            },
+        }
+    }
+}
+
 #[repr(C)]
 #[derive(Clone, Copy)]
 pub struct NextReply {
     pub refusal: u32,
     pub last: u32,
+}
+
+impl From<Result<Step, Refusal>> for NextReply {
+    ghost from_gives = { λ step given. given ≡ next_reply (going_of step) };
+
+    fn from(step: Result<Step, Refusal>) -> NextReply {
+        match step {
+            Ok(Step::Next) => NextReply {
+                refusal: 0,
+                last: 0,
+            },
+            Ok(Step::Last) => NextReply {
+                refusal: 0,
+                last: 1,
+            },
+            Err(refusal) => NextReply {
+                refusal: refusal.into(),
+                last: 0,
+            },
+        }
+    }
 }
 
 #[repr(C)]
@@ -56,12 +125,54 @@ pub struct CheckReply {
     pub position: usize,
 }
 
+impl From<Result<Option<usize>, Refusal>> for CheckReply {
+    ghost from_gives = { λ checked given. given ≡ check_reply (finding_of checked) };
+
+    fn from(checked: Result<Option<usize>, Refusal>) -> CheckReply {
+        match checked {
+            Ok(None) => CheckReply {
+                refusal: 0,
+                right: 1,
+                position: 0,
+            },
+            Ok(Some(position)) => CheckReply {
+                refusal: 0,
+                right: 0,
+                position,
+            },
+            Err(refusal) => CheckReply {
+                refusal: refusal.into(),
+                right: 0,
+                position: 0,
+            },
+        }
+    }
+}
+
 #[repr(C)]
 #[derive(Clone, Copy)]
 pub struct PartReply {
     pub refusal: u32,
     pub start: usize,
     pub length: usize,
+}
+
+// A part of a string that starts at the position, unless it is refused.
+pub fn part_reply<S>(position: usize, part: Result<&[S], Refusal>) -> PartReply
+    ensures { result ≡ part_of position part.entry }
+{
+    match part {
+        Ok(part) => PartReply {
+            refusal: 0,
+            start: position,
+            length: part.len(),
+        },
+        Err(refusal) => PartReply {
+            refusal: refusal.into(),
+            start: 0,
+            length: 0,
+        },
+    }
 }
 
 #[repr(C)]
@@ -74,107 +185,25 @@ pub struct CabinetReply {
     pub length: usize,
 }
 
-pub fn build_reply(built: Built) -> BuildReply
-    ensures { result ≡ build_reply (built_figures built) }
-{
-    match built {
-        Built::Finished(k) => BuildReply {
-            refusal: 0,
-            finished: 1,
-            rows: k.rows,
-            equal: k.equal,
-            unequal: k.unequal,
-            reach: k.reach,
-        },
-        Built::Halted(k) => BuildReply {
-            refusal: 0,
-            finished: 0,
-            rows: k.rows,
-            equal: k.equal,
-            unequal: k.unequal,
-            reach: k.reach,
-        },
-        Built::Refused(k) => BuildReply {
-            refusal: refusal::number(k),
-            finished: 0,
-            rows: 0,
-            equal: 0,
-            unequal: 0,
-            reach: 0,
-        },
-    }
-}
+impl From<Result<Entry<'_>, Refusal>> for CabinetReply {
+    ghost from_gives = { λ entry given. given ≡ entry_reply entry };
 
-pub fn reply_of(answer: Answer) -> Reply
-    ensures { result ≡ reply (figures_of answer) }
-{
-    match answer {
-        Answer::Value(v) => Reply {
-            refusal: 0,
-            value: v,
-        },
-        Answer::NoValue(k) => Reply {
-            refusal: refusal::number(k),
-            value: 0,
-        },
-    }
-}
-
-pub fn next_reply(step: Step) -> NextReply
-    ensures { result ≡ next_reply (going_of step) }
-{
-    match step {
-        Step::Next => NextReply {
-            refusal: 0,
-            last: 0,
-        },
-        Step::Last => NextReply {
-            refusal: 0,
-            last: 1,
-        },
-        Step::Refused(k) => NextReply {
-            refusal: refusal::number(k),
-            last: 0,
-        },
-    }
-}
-
-pub fn check_reply(checked: Checked) -> CheckReply
-    ensures { result ≡ check_reply (finding_of checked) }
-{
-    match checked {
-        Checked::Right => CheckReply {
-            refusal: 0,
-            right: 1,
-            position: 0,
-        },
-        Checked::WrongAt(i) => CheckReply {
-            refusal: 0,
-            right: 0,
-            position: i,
-        },
-        Checked::Refused(k) => CheckReply {
-            refusal: refusal::number(k),
-            right: 0,
-            position: 0,
-        },
-    }
-}
-
-// A part of a string that starts at the position, unless it is refused.
-pub fn part_reply(refused: u32, position: usize, length: usize) -> PartReply
-    ensures { result ≡ part_reply refused position length }
-{
-    if refused != 0 {
-        return PartReply {
-            refusal: refused,
-            start: 0,
-            length: 0,
-        };
-    }
-    PartReply {
-        refusal: 0,
-        start: position,
-        length,
+    fn from(entry: Result<Entry<'_>, Refusal>) -> CabinetReply {
+        match entry {
+            Ok(entry) => CabinetReply {
+                refusal: 0,
+                mark: entry.mark.into(),
+                letters: entry.letters,
+                start: entry.place,
+                length: entry.body.len(),
+            },
+            Err(refusal) => CabinetReply {
+                refusal: refusal.into(),
+                mark: 0,
+                letters: 0,
+                start: 0,
+                length: 0,
+            },
+        }
     }
 }

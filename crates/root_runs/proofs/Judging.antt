@@ -1,38 +1,55 @@
 -- Acceptance at a place, test by test, and what is reported.
-use mathlib.Core.Path.{◌≡◌, sym}
-use mathlib.Core.Bool.{Bool, true, false}
+use mathlib.Core.Path.{◌≡◌, refl, sym, ap}
+use mathlib.Core.Bool.{Bool, true, false, true≢false}
 use mathlib.Core.List.{List}
-use Prim.Native.Nat.{ℕ, suc, ◌+◌, ◌-◌, ◌≤◌, ◌<◌}
+use Prim.Native.Nat.{ℕ, ◌+◌, ◌-◌, ◌≤◌, ◌<◌}
 use native.Mathlib.Omega.{arith}
 use lib.ListN.{length}
-use Rattle.repeats.specs.Runs.{no_run}
-use Rattle.repeats.specs.Roots.{left_of, reports}
+use Rattle.std.specs.Prelude.{Option, Some, None, is_some, unwrap_or}
+use Rattle.std.specs.Option.{option_map}
+use Rattle.repeats.specs.Runs.{Run}
+use Rattle.repeats.specs.Roots.{left_of, accepts, reports}
 use Rattle.repeats.specs.Gathered.{report_of}
-use Rattle.repeats.proofs.Accepting.{Accepts, tell_accepts, accepts_not, left_most}
-use Rattle.root_runs.specs.States.{Judged}
+use Rattle.repeats.proofs.Accepting.{Accepts, tell_accepts, accepts_not}
+use Rattle.run_list.specs.declared.Run as declared
+use Rattle.run_list.specs.Entries.{run_of}
+use Rattle.root_runs.specs.States.{accepted, run_in}
 
 module _ (y : List ℕ) (reverse : Bool) (i j m : ℕ) where
-  pub judged_no : (Accepts y reverse i j m → ⊥) → Judged y reverse i j m 0
-  judged_no h = record { room = omega arith; yes = λ a. absurd (omega arith); no_run = λ a. accepts_not y reverse i j m h }
+  pub accepted_no : (Accepts y reverse i j m → ⊥) → None ≡ accepted y reverse i j m
+  accepted_no h = rw (accepts_not y reverse i j m h)
 
-  pub judged_yes : (x : ℕ) → x ≡ left_of y i j → 0 < x → x ≤ j - i → j - i ≤ x + m → (reverse ≡ true → j + m < length y) → Judged y reverse i j m x
-  judged_yes x e a b c d =
-      record {
-        room = omega (arith, left_most y (suc (j - i)) i j);
-        yes = λ h. (tell_accepts y reverse i j m (record { one = omega arith; uncut = omega arith; twice = omega arith; ends = d }), e);
-        no_run = λ h. absurd (omega arith);
-      }
+  pub accepted_yes : (x : ℕ) → x ≡ left_of y i j → 0 < x → x ≤ j - i → j - i ≤ x + m → (reverse ≡ true → j + m < length y)
+      → Some (record { start = i - x; end = j + m; period = j - i }) ≡ accepted y reverse i j m
+  unfolding reports
+  accepted_yes x e a b c d = rw (tell_accepts y reverse i j m (record { one = omega arith; uncut = omega arith; twice = omega arith; ends = d }), e)
 
+-- where none is accepted, and what is accepted
+module _ (y : List ℕ) (reverse : Bool) (i j m : ℕ) where
+  pub not_accepted : None ≡ accepted y reverse i j m → accepts y reverse i j m ≡ false
+  not_accepted e = go (accepts y reverse i j m) refl
+    where
+      go : (b : Bool) → accepts y reverse i j m ≡ b → accepts y reverse i j m ≡ false
+      go true q = absurd (true≢false (sym (ap is_some (rw q at e))))
+      go false q = q
+
+  pub is_accepted : {r : Run} → Some r ≡ accepted y reverse i j m → (accepts y reverse i j m ≡ true) × (r ≡ reports y i j m)
+  is_accepted {r} e = go (accepts y reverse i j m) refl
+    where
+      go : (b : Bool) → accepts y reverse i j m ≡ b → (accepts y reverse i j m ≡ true) × (r ≡ reports y i j m)
+      go true q = (q, ap (λ o. unwrap_or o r) (rw q at e))
+      go false q = absurd (true≢false (ap is_some (rw q at e)))
+
+-- place i reports by its next under the order, else by that under the reverse
 module _ (y : List ℕ) (i j m k l : ℕ) where
-  pub reports_first : (x : ℕ) → Judged y false i j m x → 0 < x → {s e p : ℕ} → s ≡ i - x → e ≡ j + m → p ≡ j - i → record { start = s; end = e; period = p } ≡ report_of y i j m k l
-  unfolding report_of reports
-  reports_first x J h a b c = let u = J.yes h in rw (u.0, report_of, sym u.1, a, b, c)
+  pub first_reported : (r : Option declared.Run) → option_map run_of r ≡ accepted y false i j m → is_some r ≡ true → run_in r ≡ report_of y i j m k l
+  unfolding report_of
+  first_reported None e h = absurd (true≢false (sym h))
+  first_reported (Some r) e h = let a = is_accepted y false i j m e in rw (a.0, report_of) a.1
 
-  module _ (x : ℕ) (J : Judged y false i j m x) (h : x ≡ 0) where
-    pub reports_second : (z : ℕ) → Judged y true i k l z → 0 < z → {s e p : ℕ} → s ≡ i - z → e ≡ k + l → p ≡ k - i → record { start = s; end = e; period = p } ≡ report_of y i j m k l
-    unfolding report_of reports
-    reports_second z K g a b c = let u = K.yes g in rw (J.no_run h, u.0, report_of, sym u.1, a, b, c)
-
-    pub reports_none : (z : ℕ) → Judged y true i k l z → z ≡ 0 → no_run ≡ report_of y i j m k l
-    unfolding report_of
-    reports_none z K g = rw (J.no_run h, K.no_run g, report_of)
+  pub second_reported : (first r : Option declared.Run) → option_map run_of first ≡ accepted y false i j m → is_some first ≡ false
+      → option_map run_of r ≡ accepted y true i k l → run_in r ≡ report_of y i j m k l
+  unfolding report_of
+  second_reported (Some r) s d g e = absurd (true≢false g)
+  second_reported None None d g e = rw (not_accepted y false i j m d, not_accepted y true i k l e, report_of)
+  second_reported None (Some r) d g e = let a = is_accepted y true i k l e in rw (not_accepted y false i j m d, a.0, report_of) a.1

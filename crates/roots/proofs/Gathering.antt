@@ -14,26 +14,34 @@ use Rattle.suffix.proofs.Search.{tabulate_length, tabulate_entry}
 use Rattle.suffix.proofs.Nearest.{next_at_lem, next_le, next_match_is}
 use Rattle.suffix.proofs.Order.{lce_match, agree_fits}
 use Rattle.suffix.proofs.Laws.{all_rows_give_all_entries}
-use Rattle.ranks.specs.Ranks.{greatest_rank, oriented}
+use Rattle.ranks.specs.Ranks.{AllFit, greatest_rank, oriented}
 use Rattle.ranks.proofs.Ranks.{oriented_length}
-use Rattle.refusal.specs.declared.Verdict.{Verdict}
-use Rattle.outcome.specs.Built.{TablesBuilt}
+use Rattle.std.specs.Prelude.{Option, Some, None, Result, Err}
+use Rattle.refusal.specs.declared.Refusal.{Refusal}
+use Rattle.refusal.proofs.Numbers.{positive}
+use Rattle.refusal.proofs.Tables.{none_refused}
+use Rattle.outcome.specs.Built.{tables_refusal_of, TablesBuilt}
 use Rattle.outcome.proofs.Alone.{Lengths, whole}
-use Rattle.repeats.specs.Runs.{Run}
+use Rattle.repeats.specs.Runs.{Run, no_run}
 use Rattle.repeats.specs.Report.{runs, Before}
 use Rattle.repeats.specs.Roots.{AtMost}
 use Rattle.repeats.specs.Gathered.{report_at, put, gathered}
 use Rattle.repeats.specs.Refusals.{Lists}
 use Rattle.repeats.proofs.Gathering.{Holds, Gathers, puts, leaves, gathers_how, gathered_holds, gathered_is, gathered_few, fresh}
-use Rattle.run_list.specs.Entries.{entry_in, entries_from, entries, Has}
-use Rattle.run_list.specs.Inserted.{Inserted}
+use Rattle.run_list.specs.declared.Run as declared
+use Rattle.run_list.specs.declared.RunList.{RunList}
+use Rattle.run_list.specs.Entries.{tables, entry_in, entries_from, entries, Has, SameTables}
+use Rattle.run_list.specs.Inserted.{is_taken, lists_with, count_with, Inserted}
 use Rattle.run_list.specs.Claims.{Insertable, Put}
-use Rattle.run_list.proofs.Entries.{entries_count, entry_mem, entries_ordered}
+use Rattle.run_list.proofs.Entries.{same_here, same_after, entries_count, entry_mem, entries_ordered}
 use Rattle.run_list.proofs.Laws.{order_is_kept}
-use Rattle.root_runs.specs.States.{Within}
+use Rattle.root_runs.specs.States.{Within, run_in}
 use Rattle.root_runs.specs.Bounds.{report_within}
 use Rattle.root_runs.proofs.Laws.{within_as_reported}
 use Rattle.roots.specs.States.{Tabled}
+
+pub at_most : {y : List ℕ} → AllFit y → AtMost greatest_rank y
+at_most h = record { at = h }
 
 -- next and its match lie in the string, under either order
 within_next : (y : List ℕ) (o : Bool) (i : ℕ) → i < length y → {j : ℕ} → j ≡ next (oriented o y) i → {m : ℕ} → m ≡ next_match (oriented o y) i → Within (length y) i j m
@@ -47,13 +55,34 @@ within_next y o i h a b =
     record { after = omega (arith, N.after); fits = omega (arith, next_match_is z i g) }
 
 -- the tables of an order are built
-pub tabled : (y : List ℕ) (o : Bool) {before after : Tables} {verdict : Verdict} → Lengths (length (oriented o y)) before → TablesBuilt (oriented o y) before after verdict
+pub tabled : (y : List ℕ) (o : Bool) {before after : Tables} {verdict : Result (Unit {0}) Refusal} → Lengths (length (oriented o y)) before → TablesBuilt (oriented o y) before after verdict
     → Tabled y o after.next after.next_match
 tabled y o {before} {after} S B =
     let z : List ℕ = oriented o y in
     let n : length z ≡ length y = oriented_length greatest_rank o y in
     let all = whole z before S B ∙ all_rows_give_all_entries z in
     record { next = ap (λ (t : Tables). t.next) all ∙ ap (λ k. tabulate k (next z)) n; match = ap (λ (t : Tables). t.next_match) all ∙ ap (λ k. tabulate k (next_match z)) n }
+
+pub tabled_as : {y : List ℕ} {o : Bool} {a b : List ℕ} → Tabled y o a b → {c d : List ℕ} → c ≡ a → d ≡ b → Tabled y o c d
+tabled_as T e f = record { next = e ∙ T.next; match = f ∙ T.match }
+
+-- such tables keep their lengths, and are not refused
+pub still : (y : List ℕ) (o : Bool) {before after : Tables} {verdict : Result (Unit {0}) Refusal} → Lengths (length (oriented o y)) before → TablesBuilt (oriented o y) before after verdict
+    → Lengths (length (oriented o y)) after
+still y o {before} S B =
+    let z : List ℕ = oriented o y in
+    let all = whole z before S B ∙ all_rows_give_all_entries z in
+    record {
+      few = S.few;
+      previous = ap (λ (t : Tables). length t.previous) all ∙ tabulate_length _ _;
+      next = ap (λ (t : Tables). length t.next) all ∙ tabulate_length _ _;
+      previous_match = ap (λ (t : Tables). length t.previous_match) all ∙ tabulate_length _ _;
+      next_match = ap (λ (t : Tables). length t.next_match) all ∙ tabulate_length _ _;
+    }
+
+pub not_refused : (y : List ℕ) (o : Bool) {before after : Tables} {k : Refusal} → Lengths (length (oriented o y)) before → TablesBuilt (oriented o y) before after (Err k) → ⊥
+unfolding tables_refusal_of
+not_refused y o {k = k} S B = omega (arith, positive k, B.answers, none_refused _ _ _ _ _ S)
 
 -- what the tables of an order say
 module _ {y : List ℕ} {o : Bool} {nexts matches : List ℕ} (T : Tabled y o nexts matches) where
@@ -122,6 +151,33 @@ module _ {y : List ℕ} (B : AtMost greatest_rank y) {i c : ℕ} {t : Lists} (G 
 
       holds : entries u d ≡ gathered greatest_rank y (suc i)
       holds = P.holds ∙ ap (put r) G.holds ∙ ap (λ q. put q (gathered greatest_rank y i)) e
+
+-- what is not a run is none
+pub none_in : (o : Option declared.Run) → ((r : declared.Run) → o ≡ Some r → ⊥) → run_in o ≡ no_run
+none_in None h = refl
+none_in (Some r) h = absurd (h r refl)
+
+-- no run is put in
+none_inserted : (c : ℕ) (t : Lists) → Inserted c no_run t t c
+unfolding is_taken lists_with count_with
+none_inserted c t = record { leaves = refl; answers = refl }
+
+-- the same of a list of runs, whose tables are the lent ones
+pub record Collecting (y : List ℕ) (i : ℕ) (was is : RunList) : Type 0 where
+  pub same : SameTables was is
+  pub gathering : Gathering y i is.count (tables is)
+
+pub collecting_none : {y : List ℕ} {l : RunList} {matches : List ℕ} → Tabled y false l.periods.now matches → length l.starts.now ≡ length y → length l.ends.now ≡ length y → l.count ≡ 0
+    → Collecting y 0 l l
+collecting_none T a b e = record { same = same_here; gathering = rw e (gathering_none T a b) }
+
+pub collecting_more : {y : List ℕ} → AtMost greatest_rank y → {i : ℕ} {was is : RunList} → Collecting y i was is → i < length y
+    → {r : Run} → r ≡ report_at greatest_rank y i → {to : RunList} → SameTables is to → Inserted is.count r (tables is) (tables to) to.count → Collecting y (i + 1) was to
+collecting_more B K h e S E =
+    record { same = same_after K.same S; gathering = gathering_more B K.gathering h _ e _ _ E S.starts.size S.ends.size S.periods.size }
+
+pub collecting_none_more : {y : List ℕ} → AtMost greatest_rank y → {i : ℕ} {was is : RunList} → Collecting y i was is → i < length y → no_run ≡ report_at greatest_rank y i → Collecting y (i + 1) was is
+collecting_none_more B K h e = collecting_more B K h e same_here (none_inserted _ _)
 
 pub gathering_done : {y : List ℕ} → AtMost greatest_rank y → {i c : ℕ} {t : Lists} → Gathering y i c t → length y ≤ i → entries t c ≡ runs y
 gathering_done {y} B {i} G w = let z : i ≡ length y = omega arith in G.holds ∙ ap (gathered greatest_rank y) z ∙ gathered_is B

@@ -1,16 +1,15 @@
 -- The refusals 1 and 2, test by test, and the ways out of the gathering.
 use mathlib.Core.Path.{◌≡◌, refl, sym, ap, ◌∙◌}
-use mathlib.Core.Logic.{◌≢◌}
 use mathlib.Core.Bool.{Bool, true, false, not, ◌||◌}
 use mathlib.Core.List.{List, [], ◌∷◌, map}
-use Prim.Native.Nat.{ℕ, ◌≤◌, ◌<◌}
+use Prim.Native.Nat.{ℕ, ◌≤◌}
 use native.Mathlib.Omega.{arith}
 use lib.Dec.{eqb}
-use lib.ListN.{length, replicate}
-use borrow.Author.Tests.{lt-ltb, le-ltb, ltb-false, eq-eqb, ne_eqb}
+use lib.ListN.{length}
+use borrow.Author.Tests.{ltb-false}
 use Rattle.refusal.specs.declared.Refusal.{Refusal}
 use Rattle.refusal.specs.declared.Refusal.TheVariants.{TooLong, TableLength}
-use Rattle.refusal.specs.declared.Answer.TheVariants.{Value, NoValue}
+use Rattle.std.specs.Prelude.{Result, Ok, Err}
 use Rattle.refusal.specs.Numbers.{number_of, number_if, first_of}
 use Rattle.refusal.specs.Answers.{value}
 use Rattle.refusal.specs.Conditions.{too_long}
@@ -18,37 +17,23 @@ use Rattle.refusal.proofs.Numbers.{positive, neither, unless_taken, unless_refus
 use Rattle.refusal.proofs.Tables.{not_off}
 use Rattle.refusal.proofs.Answers.{answered_value, answered_refused}
 use Rattle.repeats.specs.Report.{runs}
-use Rattle.entries.proofs.Clearing.{cleared_all}
-use Rattle.repeats.specs.Refusals.{Lists, lists, work_length_off}
-use Rattle.roots.specs.WorkTables.{work_refusal, work_with, Gathered}
-use Rattle.roots.specs.States.{Listed, cleared}
+use Rattle.repeats.specs.Refusals.{work_length_off}
+use Rattle.suffix.specs.Rows.{Tables}
+use Rattle.ranks.specs.Ranks.{oriented, greatest_rank}
+use Rattle.ranks.proofs.Ranks.{oriented_length}
+use Rattle.outcome.specs.Built.{tables_of, TablesBuilt}
+use Rattle.outcome.proofs.Alone.{Lengths}
+use Rattle.roots.specs.declared.WorkTables.{WorkTables}
+use Rattle.roots.specs.WorkTables.{work_in, work_refusal, work_with, Gathered}
+use Rattle.roots.specs.States.{HasRoom}
+use Rattle.roots.proofs.Gathering.{still}
 
 -- ---- whether a length is off
-
-pub off_here : (a n : ℕ) (others : Bool) → a ≢ n → true ≡ not (eqb a n) || others
-off_here a n others e = rw (ne_eqb a n e)
-
-pub off_later : (a n : ℕ) {b others : Bool} → a ≡ n → b ≡ others → b ≡ not (eqb a n) || others
-off_later a n e w = rw (eq-eqb a n e) w
 
 none_off : (a n : ℕ) (others : Bool) → not (eqb a n) || others ≡ false → (a ≡ n) × (others ≡ false)
 none_off a n others h = let u = neither (not (eqb a n)) others h in (not_off a n u.0, u.1)
 
 -- ---- 1 and 2
-
-module _ (n : ℕ) (work : List ℕ) where
-  pub says_one : 1000000 < n → {k : ℕ} → k ≡ 1 → k ≡ work_refusal n work
-  unfolding work_refusal first_of
-  says_one h q = rw (lt-ltb 1000000 n h) q
-
-  module _ (h : n ≤ 1000000) {b : Bool} (w : b ≡ work_length_off n work) where
-    pub says_two : b ≡ true → {k : ℕ} → k ≡ 2 → k ≡ work_refusal n work
-    unfolding work_refusal first_of
-    says_two e q = rw (le-ltb 1000000 n h, sym w ∙ e) q
-
-    pub says_none : b ≡ false → {k : ℕ} → k ≡ 0 → k ≡ work_refusal n work
-    unfolding work_refusal first_of
-    says_none e q = rw (le-ltb 1000000 n h, sym w ∙ e) q
 
 neither_applies : (a b : Bool) → first_of (number_if a TooLong ∷ number_if b TableLength ∷ []) ≡ 0 → (a ≡ false) × (b ≡ false)
 unfolding first_of
@@ -77,25 +62,48 @@ fitting n a b c d e f h =
     let t = none_off e n _ s.1 in
     record { few = ltb-false 1000000 n L.0; previous = p.0; next = q.0; previous_match = r.0; next_match = s.0; reverse_next = t.0; reverse_match = (none_off f n _ t.1).0 }
 
+-- six tables for n letters that are not refused: those that the build of the order has of them, those that the build of the reverse has, where the
+-- first leaves t, and those that it leaves
+module _ (y : List ℕ) (w : WorkTables) {n : ℕ} (long : n ≡ length y) (taken : 0 ≡ work_refusal n (map length (work_in w))) where
+  abbrev fit : Fitting n (length w.previous.now) (length w.next.now) (length w.previous_match.now) (length w.next_match.now) (length w.reverse_next.now) (length w.reverse_match.now)
+  fit = fitting _ _ _ _ _ _ _ (sym taken)
+
+  pub for_build : Lengths (length (oriented false y)) (tables_of w.previous.now w.next.now w.previous_match.now w.next_match.now)
+  for_build = rw (sym long) (record { few = fit.few; previous = fit.previous; next = fit.next; previous_match = fit.previous_match; next_match = fit.next_match })
+
+  pub for_reverse : (t : Tables) {verdict : Result (Unit {0}) Refusal} → TablesBuilt (oriented false y) (tables_of w.previous.now w.next.now w.previous_match.now w.next_match.now) t verdict
+      → {a b : List ℕ} → a ≡ t.previous → b ≡ t.previous_match → Lengths (length (oriented true y)) (tables_of a w.reverse_next.now b w.reverse_match.now)
+  for_reverse t B e f =
+      let m : length (oriented true y) ≡ length y = oriented_length greatest_rank true y in
+      let L = still y false for_build B in
+      record {
+        few = omega (arith, m, long, fit.few);
+        previous = ap length e ∙ L.previous ∙ sym m;
+        next = fit.reverse_next ∙ long ∙ sym m;
+        previous_match = ap length f ∙ L.previous_match ∙ sym m;
+        next_match = fit.reverse_match ∙ long ∙ sym m;
+      }
+
+  pub has_room : {before : Tables} → Lengths (length (oriented true y)) before → (t : Tables) {verdict : Result (Unit {0}) Refusal} → TablesBuilt (oriented true y) before t verdict
+      → {v : WorkTables} → v.previous.now ≡ t.previous → v.previous_match.now ≡ t.previous_match → HasRoom n v
+  has_room S t B e f =
+      let m : length (oriented true y) ≡ length y = oriented_length greatest_rank true y in
+      let L = still y true S B in
+      record { few = fit.few; previous = ap length e ∙ L.previous ∙ m ∙ sym long; previous_match = ap length f ∙ L.previous_match ∙ m ∙ sym long }
+
 -- ---- the ways out
 
 module _ (y : List ℕ) (work : List (List ℕ)) where
   abbrev number : ℕ
   number = work_refusal (length y) (map length work)
 
-  pub refused : (k : Refusal) → number_of k ≡ number → Gathered y work work (NoValue k)
-  refused k e =
+  pub refused : {n : ℕ} (k : Refusal) → number_of k ≡ work_refusal n (map length work) → n ≡ length y → Gathered y work work (Err k)
+  refused k q long =
+      let e : number_of k ≡ number = q ∙ ap (λ n. work_refusal n (map length work)) long in
       record { answers = answered_refused number (length (runs y)) k e; leaves = sym (unless_refused_lem number (work_with (runs y) (length y)) work (λ z. omega (arith, positive k, e, z))) }
 
-  -- the runs are listed in three tables, and the other three are cleared from their first place on
-  pub gathered : number ≡ 0 → {n c : ℕ} → n ≡ length y → {u : Lists} → Listed (runs y) n u c → (t : Lists) → length t.starts ≡ n → length t.ends ≡ n → length t.periods ≡ n → {v : Lists} {k : ℕ} → v ≡ cleared k t → k ≡ 0
-      → Gathered y work (u.starts ∷ u.periods ∷ u.ends ∷ v.starts ∷ v.ends ∷ v.periods ∷ []) (Value c)
-  unfolding work_with
-  gathered e {n} m L t a b d {v} w p =
-      let none : List ℕ = replicate n 0 in
-      let are : cleared 0 t ≡ lists none none none = rw (cleared_all 0 t.starts, cleared_all 0 t.ends, cleared_all 0 t.periods, a, b, d) in
-      let z : v ≡ lists none none none = w ∙ ap (λ j. cleared j t) p ∙ are in
-      record {
-        answers = ap value L.number ∙ answered_value number (length (runs y)) e;
-        leaves = rw (L.tables, z, m) (sym (unless_taken number (work_with (runs y) (length y)) work e));
-      }
+  -- the runs are left in the tables
+  pub gathered : {n c : ℕ} → n ≡ length y → 0 ≡ work_refusal n (map length work) → c ≡ length (runs y) → {after : List (List ℕ)} → after ≡ work_with (runs y) n → Gathered y work after (Ok c)
+  gathered long q a b =
+      let e : number ≡ 0 = ap (λ n. work_refusal n (map length work)) (sym long) ∙ sym q in
+      record { answers = ap value a ∙ answered_value number (length (runs y)) e; leaves = b ∙ ap (work_with (runs y)) long ∙ sym (unless_taken number (work_with (runs y) (length y)) work e) }

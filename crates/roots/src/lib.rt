@@ -1,199 +1,133 @@
-// The runs to which the Lyndon roots of both orders lead, gathered in order: document 02, T-03. A string is of letters, or where `wide` is true of
-// symbols (T-07); the slice that it is not of is not read.
+// The runs to which the Lyndon roots of both orders lead, gathered in order: document 02, T-03. A string is of letters or of symbols (T-07).
 #![tactic(auto)]
 
-ghost use Rattle.std.specs.Prelude.{◌≡◌, true, false, [], ◌∷◌, ◌≤◌, ◌<◌, length, get_or};
-ghost use Rattle.ranks.specs.Ranks.{string_of};
+ghost use Rattle.std.specs.Prelude.{◌≡◌, true, false, ◌≤◌, length, map};
+ghost use Rattle.refusal.specs.Numbers.{verdict_number};
 ghost use Rattle.repeats.specs.Report.{runs};
-ghost use Rattle.repeats.specs.Refusals.{work_length_off, lists};
-ghost use Rattle.roots.specs.WorkTables.{Gathered};
-ghost use Rattle.roots.specs.States.{Tabled, cleared, Listed};
+ghost use Rattle.repeats.specs.Refusals.{work_length_off};
+ghost use Rattle.roots.specs.WorkTables.{work_in, work_refusal, work_with, SameWork, Gathered};
+ghost use Rattle.roots.specs.States.{Tabled, HasRoom};
 
-use entries::clear_from;
-use refusal::{Answer, Refusal};
-use root_runs::report_of;
-use run_list::insert;
+use build::build_tables;
+use entries::{Tables, clear_from};
+use ranks::Letter;
+use refusal::Refusal;
+use root_runs::{Next, report_of};
+use run_list::RunList;
 
-fn read(table: &[u32], i: usize) -> u32
-    requires { i < length table.now }
-    ensures { result ≡ get_or table.now i 0 }
-{
-    table[i]
-}
-
-// 0 in three tables from a place on.
-fn clear_three(first: &mut [u32], second: &mut [u32], third: &mut [u32], from: usize)
-    ensures { lists first.new second.new third.new
-        ≡ cleared from (lists first.old second.old third.old) }
-{
-    clear_from(first, from, 0);
-    clear_from(second, from, 0);
-    clear_from(third, from, 0);
-}
-
-// The runs of a string of n letters or symbols in three tables, with 0 beyond, and their number. `periods` holds next at entry: a place reports one run
-// at most, so its next is read before it is written over.
-fn collect(
-    letters: &[u8],
-    symbols: &[u32],
-    wide: bool,
-    n: usize,
-    starts: &mut [u32],
-    ends: &mut [u32],
-    periods: &mut [u32],
-    next_match: &[u32],
-    reverse_next: &[u32],
-    reverse_match: &[u32],
-) -> usize
-    requires symbols_len { (length (string_of wide letters.now symbols.now) ≡ n) × (n ≤ 1000000) × (length starts.old ≡ n) × (length ends.old ≡ n) }
-    requires tabled { Tabled (string_of wide letters.now symbols.now) false periods.old next_match.now }
-    requires tabled_2 { Tabled (string_of wide letters.now symbols.now) true reverse_next.now reverse_match.now }
-    ensures { Listed (runs (string_of wide letters.now symbols.now)) n (lists starts.new ends.new periods.new) result }
-{
-    let mut count = 0;
-    let mut i = 0;
-    while i < n {
-        let next = read(periods, i);
-        let matched = read(next_match, i);
-        let other_next = read(reverse_next, i);
-        let other_matched = read(reverse_match, i);
-        let run = report_of(
-            letters,
-            symbols,
-            wide,
-            i,
-            next,
-            matched,
-            other_next,
-            other_matched,
-        );
-        count = insert(starts, ends, periods, count, run);
-        i += 1;
-    }
-    clear_three(starts, ends, periods, count);
-    count
-}
-
-// next and next-match of a string of n letters or symbols, in their order or in its reverse. The other two tables are the build's to use.
-fn tables_of(
-    letters: &[u8],
-    symbols: &[u32],
-    wide: bool,
-    reverse: bool,
-    n: usize,
-    previous: &mut [u32],
-    next: &mut [u32],
-    previous_match: &mut [u32],
-    next_match: &mut [u32],
-)
-    requires symbols_len { (length (string_of wide letters.now symbols.now) ≡ n) × (n ≤ 1000000) }
-    requires previous_len { (length previous.old ≡ n) × (length next.old ≡ n) × (length previous_match.old ≡ n) × (length next_match.old ≡ n) }
-    ensures { Tabled (string_of wide letters.now symbols.now) reverse next.new next_match.new }
-{
-    build::build_tables(
-        letters,
-        symbols,
-        wide,
-        reverse,
-        previous,
-        next,
-        previous_match,
-        next_match,
-    );
+// Six tables to work with: those of a string, and next and next-match of the reverse order.
+#[derive(Drop)]
+pub struct WorkTables<'a> {
+    pub previous: &'a mut [u32],
+    pub next: &'a mut [u32],
+    pub previous_match: &'a mut [u32],
+    pub next_match: &'a mut [u32],
+    pub reverse_next: &'a mut [u32],
+    pub reverse_match: &'a mut [u32],
 }
 
 // Whether one of six lengths is not n.
-pub fn any_off(n: usize, a: usize, b: usize, c: usize, d: usize, e: usize, f: usize) -> bool
-    ensures { result ≡ work_length_off n (a ∷ b ∷ c ∷ d ∷ e ∷ f ∷ []) }
+pub fn any_off(n: usize, lengths: [usize; 6]) -> bool
+    ensures { result ≡ work_length_off n lengths }
 {
-    if a != n {
-        return true;
+    lengths.iter().any(|&length| length != n)
+}
+
+impl WorkTables<'_> {
+    // How many entries each has.
+    fn lengths(&self) -> [usize; 6]
+        ensures { result ≡ map length (work_in self.now) }
+    {
+        [
+            self.previous.len(),
+            self.next.len(),
+            self.previous_match.len(),
+            self.next_match.len(),
+            self.reverse_next.len(),
+            self.reverse_match.len(),
+        ]
     }
-    if b != n {
-        return true;
+
+    // The verdict on them for a string of n letters.
+    #[tactic(auto, unfolding(crate::specs::WorkTables::work_refusal, refusal::specs::Numbers::first_of))]
+    pub fn verdict(&self, n: usize) -> Result<(), Refusal>
+        ensures { verdict_number result ≡ work_refusal n (map length (work_in self.now)) }
+    {
+        if n > 1000000 {
+            return Err(Refusal::TooLong);
+        }
+        if any_off(n, self.lengths()) {
+            return Err(Refusal::TableLength);
+        }
+        Ok(())
     }
-    if c != n {
-        return true;
+}
+
+// Leaves the runs of a string in the tables, starts in `previous`, ends in `previous_match`, periods in `next`, with 0 beyond them and in the other
+// tables, and returns their number. `next` holds next at entry: a place reports one run at most, so its next is read before it is written over.
+fn collect<S: Letter>(string: &[S], work: &mut WorkTables) -> usize
+    requires room { HasRoom (length string.now) work.old }
+    requires tabled { Tabled (map S.rank string.now) false work.old.next.now work.old.next_match.now }
+    requires reverse_tabled { Tabled (map S.rank string.now) true work.old.reverse_next.now work.old.reverse_match.now }
+    ensures lent { SameWork work.old work.new }
+    ensures number { result ≡ length (runs (map S.rank string.now)) }
+    ensures leaves { work_in work.new ≡ work_with (runs (map S.rank string.now)) (length string.now) }
+{
+    S::fit(string);
+    // lent beside the list, as no field is read while others are lent
+    let next_match = &mut *work.next_match;
+    let reverse_next = &mut *work.reverse_next;
+    let reverse_match = &mut *work.reverse_match;
+    let mut list = RunList {
+        starts: &mut *work.previous,
+        ends: &mut *work.previous_match,
+        periods: &mut *work.next,
+        count: 0,
+    };
+    for i in 0..string.len() {
+        let next = Next {
+            position: list.periods[i],
+            matched: next_match[i],
+        };
+        let reversed = Next {
+            position: reverse_next[i],
+            matched: reverse_match[i],
+        };
+        if let Some(run) = report_of(string, i, next, reversed) {
+            list.insert(run);
+        }
     }
-    if d != n {
-        return true;
-    }
-    if e != n {
-        return true;
-    }
-    if f != n {
-        return true;
-    }
-    false
+    let count = list.count;
+    clear_from(list.starts, count, 0);
+    clear_from(list.ends, count, 0);
+    clear_from(list.periods, count, 0);
+    next_match.fill(0);
+    reverse_next.fill(0);
+    reverse_match.fill(0);
+    count
 }
 
 // Gathers the runs of a string in order: starts in `previous`, ends in `previous_match`, periods in `next`, with 0 beyond them and in the other
 // tables. Their number is returned. A refusal writes nothing.
-pub fn gather(
-    letters: &[u8],
-    symbols: &[u32],
-    wide: bool,
-    previous: &mut [u32],
-    next: &mut [u32],
-    previous_match: &mut [u32],
-    next_match: &mut [u32],
-    reverse_next: &mut [u32],
-    reverse_match: &mut [u32],
-) -> Answer
-    ensures { Gathered (string_of wide letters.now symbols.now)
-        (previous.old ∷ next.old ∷ previous_match.old ∷ next_match.old ∷ reverse_next.old ∷ reverse_match.old ∷ [])
-        (previous.new ∷ next.new ∷ previous_match.new ∷ next_match.new ∷ reverse_next.new ∷ reverse_match.new ∷ [])
-        result }
+pub fn gather<S: Letter>(string: &[S], work: &mut WorkTables) -> Result<usize, Refusal>
+    ensures lent { SameWork work.old work.new }
+    ensures gathered { Gathered (map S.rank string.now) (work_in work.old) (work_in work.new) result }
 {
-    let n = ranks::string_length(letters, symbols, wide);
-    if n > 1000000 {
-        return Answer::NoValue(Refusal::TooLong);
-    }
-    if any_off(
-        n,
-        previous.len(),
-        next.len(),
-        previous_match.len(),
-        next_match.len(),
-        reverse_next.len(),
-        reverse_match.len(),
-    ) {
-        return Answer::NoValue(Refusal::TableLength);
-    }
-    tables_of(
-        letters,
-        symbols,
-        wide,
-        false,
-        n,
-        previous,
-        next,
-        previous_match,
-        next_match,
-    );
-    tables_of(
-        letters,
-        symbols,
-        wide,
-        true,
-        n,
-        previous,
-        reverse_next,
-        previous_match,
-        reverse_match,
-    );
-    let count = collect(
-        letters,
-        symbols,
-        wide,
-        n,
-        previous,
-        previous_match,
-        next,
-        next_match,
-        reverse_next,
-        reverse_match,
-    );
-    clear_three(next_match, reverse_next, reverse_match, 0);
-    Answer::Value(count)
+    work.verdict(string.len())?;
+    let mut tables = Tables {
+        previous: &mut *work.previous,
+        next: &mut *work.next,
+        previous_match: &mut *work.previous_match,
+        next_match: &mut *work.next_match,
+    };
+    // no build refuses what the verdict does not
+    build_tables(string, false, &mut tables)?;
+    let mut reverse_tables = Tables {
+        previous: &mut *work.previous,
+        next: &mut *work.reverse_next,
+        previous_match: &mut *work.previous_match,
+        next_match: &mut *work.reverse_match,
+    };
+    build_tables(string, true, &mut reverse_tables)?;
+    Ok(collect(string, work))
 }

@@ -1,4 +1,4 @@
--- The entries of three tables as a list, and what a store does to them.
+-- The tables of a list, their entries as a list, and what a store does to them.
 use mathlib.Core.Path.{◌≡◌, refl, sym, ap, ◌∙◌}
 use mathlib.Core.Logic.{◌≢◌, ◌⊎◌, inl, inr}
 use mathlib.Core.List.Memᴰ
@@ -7,12 +7,23 @@ use Prim.Native.Nat.{ℕ, zero, suc, ◌+◌, ◌≤◌, ◌<◌}
 use native.Mathlib.Omega.{arith}
 use lib.ListN.{length}
 use lib.Seq.{get_or-set_same, get_or-set_other}
+use Rattle.std.specs.Borrow.{MutBor}
 use Rattle.suffix.proofs.Cases.{Same, same, other, same?}
 use Rattle.repeats.specs.Runs.{Run}
 use Rattle.repeats.specs.Report.{Before, Ordered, then}
 use Rattle.repeats.specs.Refusals.{Lists}
 use Rattle.repeats.proofs.Listing.{run_eq}
-use Rattle.run_list.specs.Entries.{entry_in, entries_from, entries, stored, Has}
+use Rattle.run_list.specs.declared.RunList.{RunList}
+use Rattle.run_list.specs.Entries.{entry_in, entries_from, entries, stored, Has, SameSlice, SameTables}
+
+pub same_here : {l : RunList} → SameTables l l
+same_here = record { starts = record { name = refl; size = refl }; ends = record { name = refl; size = refl }; periods = record { name = refl; size = refl } }
+
+slice_after : {a b c : MutBor (List ℕ)} → SameSlice a b → SameSlice b c → SameSlice a c
+slice_after S T = record { name = T.name ∙ S.name; size = T.size ∙ S.size }
+
+pub same_after : {a b c : RunList} → SameTables a b → SameTables b c → SameTables a c
+same_after S T = record { starts = slice_after S.starts T.starts; ends = slice_after S.ends T.ends; periods = slice_after S.periods T.periods }
 
 entries_length : (t : Lists) (i c : ℕ) → length (entries_from t i c) ≡ c
 unfolding entries_from

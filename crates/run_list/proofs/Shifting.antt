@@ -5,21 +5,19 @@ use mathlib.Core.Bool.{true, false, true≢false}
 use mathlib.Core.List.{◌∷◌, ◌++◌}
 use Prim.Native.Nat.{ℕ, zero, suc, ◌+◌, ◌-◌, ◌≤◌, ◌<◌}
 use native.Mathlib.Omega.{arith}
-use lib.Dec.{ltb}
 use lib.ListN.{length, length-set}
-use borrow.Author.Tests.{lt-ltb, ltb-true}
-use Rattle.suffix.proofs.Cases.{Same, same, other, same?, Test, holds, fails, test, both_true}
+use Rattle.suffix.proofs.Cases.{Same, same, other, same?, Test, holds, fails, test}
 use Rattle.repeats.specs.Runs.{Run}
 use Rattle.repeats.specs.Report.{before, Before}
 use Rattle.repeats.specs.Gathered.{insert}
 use Rattle.repeats.specs.Refusals.{Lists}
 use Rattle.repeats.proofs.Ordering.{before_trans, before_yes, before_told, insert_at}
 use Rattle.repeats.proofs.Gathering.{put_none, put_one}
-use Rattle.run_list.specs.Entries.{entry_in, entries_from, entries, stored, Has, passes}
+use Rattle.run_list.specs.Entries.{entry_in, entries_from, entries, stored, Has}
 use Rattle.run_list.specs.Inserted.{placed}
 use Rattle.run_list.specs.Claims.{Insertable, Put}
 use Rattle.run_list.proofs.Entries.{entries_split, entries_same, mem_entry, entry_stored, entry_other}
-use Rattle.run_list.proofs.Inserting.{passes_none, placed_below, placed_here}
+use Rattle.run_list.proofs.Inserting.{placed_below, placed_here}
 
 -- ---- entries j to c - 1 of t₀, which r comes before, are moved up by one
 
@@ -41,9 +39,8 @@ module _ {c j : ℕ} {r : Run} {t₀ t : Lists} (S : Shifted c j r t₀ t) where
   shifted_has : Has t₀ c → Has t j
   shifted_has H = record { starts = omega arith; ends = omega arith; periods = omega arith }
 
-  shifted_more : passes t j r ≡ true → Has t j → Shifted c (j - 1) r t₀ (stored t j (entry_in t (j - 1)))
-  unfolding passes
-  shifted_more e H = let w = both_true (ltb 0 j) (before r (entry_in t (j - 1))) e in more (ltb-true 0 j w.0) (before_told r (entry_in t (j - 1)) w.1)
+  shifted_more : 0 < j → before r (entry_in t (j - 1)) ≡ true → Has t j → Shifted c (j - 1) r t₀ (stored t j (entry_in t (j - 1)))
+  shifted_more h e H = more h (before_told r (entry_in t (j - 1)) e)
     where
       q : Run
       q = entry_in t (j - 1)
@@ -69,17 +66,16 @@ module _ {c j : ℕ} {r : Run} {t₀ t : Lists} (S : Shifted c j r t₀ t) where
             periods = length-set t.periods j q.period ∙ S.periods;
           }
 
-  module _ (no : passes t j r ≡ false) (I : Insertable t₀ c r) where
+  module _ (no : 0 < j → before r (entry_in t (j - 1)) ≡ false) (I : Insertable t₀ c r) where
     -- those below its place come before r
     before_r : (k : ℕ) → k < j → Before (entry_in t₀ k) r
-    unfolding passes
     before_r k h = go (same? k (j - 1))
       where
         last : Before (entry_in t₀ (j - 1)) r
         last = pick (I.fresh (j - 1) (omega (arith, S.most)))
           where
             pick : Before r (entry_in t₀ (j - 1)) ⊎ Before (entry_in t₀ (j - 1)) r → Before (entry_in t₀ (j - 1)) r
-            pick (inl b) = absurd (true≢false (sym (rw (lt-ltb 0 j (omega arith), S.below (j - 1) (omega arith)) (before_yes b)) ∙ no))
+            pick (inl b) = absurd (true≢false (sym (rw (S.below (j - 1) (omega arith)) (before_yes b)) ∙ no (omega arith)))
             pick (inr b) = b
 
         go : Same k (j - 1) → Before (entry_in t₀ k) r
@@ -112,16 +108,18 @@ module _ {c j : ℕ} {r : Run} {t₀ t : Lists} (S : Shifted c j r t₀ t) where
 
 module _ {c : ℕ} {r : Run} {t₀ : Lists} (H : Has t₀ c) (ne : r.period ≢ 0) (I : Insertable t₀ c r) where
   from_place : (j : ℕ) (t : Lists) → Shifted c j r t₀ t → Put c r t₀ (placed j t r) (c + 1)
-  from_place zero t S = let no = sym (passes_none t 0 r refl) in rw (placed_here r 0 t no) (inserted S no I (shifted_has S H) ne)
-  from_place (suc j) t S = go (test (passes t (suc j) r)) (λ X. from_place j (stored t (suc j) (entry_in t j)) X)
+  from_place zero t S = let no : 0 < 0 → before r (entry_in t (0 - 1)) ≡ false = λ h. absurd (omega arith) in rw (placed_here r t 0 no) (inserted S no I (shifted_has S H) ne)
+  from_place (suc j) t S = go (test (before r (entry_in t (suc j - 1)))) (λ X. from_place j (stored t (suc j) (entry_in t j)) X)
     where
       z : suc j - 1 ≡ j
       z = omega arith
 
-      go : Test (passes t (suc j) r) → (Shifted c j r t₀ (stored t (suc j) (entry_in t j)) → Put c r t₀ (placed j (stored t (suc j) (entry_in t j)) r) (c + 1))
-          → Put c r t₀ (placed (suc j) t r) (c + 1)
-      go (holds e) ih = rw (placed_below r (suc j) t e, z) (ih (rw z at (shifted_more S e (shifted_has S H))))
-      go (fails e) ih = rw (placed_here r (suc j) t e) (inserted S e I (shifted_has S H) ne)
+      u : Lists
+      u = stored t (suc j) (entry_in t j)
+
+      go : Test (before r (entry_in t (suc j - 1))) → (Shifted c j r t₀ u → Put c r t₀ (placed j u r) (c + 1)) → Put c r t₀ (placed (suc j) t r) (c + 1)
+      go (holds e) ih = rw (placed_below r t (suc j) (omega arith) e, z) (ih (rw z at (shifted_more S (omega arith) e (shifted_has S H))))
+      go (fails e) ih = rw (placed_here r t (suc j) (λ h. e)) (inserted S (λ h. e) I (shifted_has S H) ne)
 
   pub placed_put : Put c r t₀ (placed c t₀ r) (c + 1)
   placed_put = from_place c t₀ (shifted_none c r t₀)

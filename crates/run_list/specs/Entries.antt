@@ -1,12 +1,28 @@
 -- Three tables as a list of runs.
-use Rattle.std.specs.Prelude.{Bool, ◌&&◌, List, [], ◌∷◌, ℕ, zero, suc, ◌-◌, ◌<◌, ltb, length, get_or, set}
+use Rattle.std.specs.Prelude.{◌≡◌, List, [], ◌∷◌, ℕ, zero, suc, ◌<◌, length, get_or, set}
+use Rattle.std.specs.Borrow.{MutBor}
 use Rattle.repeats.specs.Runs.{Run}
-use Rattle.repeats.specs.Report.{before}
 use Rattle.repeats.specs.Refusals.{Lists}
 use Rattle.run_list.specs.declared.Run as declared
+use Rattle.run_list.specs.declared.RunList.{RunList}
 
 abbrev pub run_of : declared.Run → Run
 run_of r = record { start = r.start; end = r.end; period = r.period }
+
+-- what the three tables of a list hold
+abbrev pub tables : RunList → Lists
+tables l = record { starts = l.starts.now; ends = l.ends.now; periods = l.periods.now }
+
+-- one and the same lent slice, whatever it holds
+pub record SameSlice (was is : MutBor (List ℕ)) : Type 0 where
+  pub name : is.ghost_name ≡ was.ghost_name
+  pub size : length is.now ≡ length was.now
+
+-- the tables of one list are those of the other
+pub record SameTables (was is : RunList) : Type 0 where
+  pub starts : SameSlice was.starts is.starts
+  pub ends : SameSlice was.ends is.ends
+  pub periods : SameSlice was.periods is.periods
 
 -- entry k of three tables
 abbrev pub entry_in : Lists → ℕ → Run
@@ -28,7 +44,3 @@ pub record Has (t : Lists) (k : ℕ) : Type 0 where
   pub starts : k < length t.starts
   pub ends : k < length t.ends
   pub periods : k < length t.periods
-
--- r comes before the entry that is before place j
-unfoldable pub passes : Lists → ℕ → Run → Bool
-passes t j r = ltb 0 j && before r (entry_in t (j - 1))

@@ -1,10 +1,9 @@
 // A list of runs in three tables, kept by start and then by period: one run after the other is put in where it belongs.
 #![tactic(auto)]
 
-ghost use Rattle.std.specs.Prelude.{◌≡◌, ◌-◌, ◌<◌};
+ghost use Rattle.std.specs.Prelude.{◌≡◌, ◌<◌};
 ghost use Rattle.repeats.specs.Report.{before};
-ghost use Rattle.repeats.specs.Refusals.{lists};
-ghost use Rattle.run_list.specs.Entries.{run_of, entry_in, stored, Has, passes};
+ghost use Rattle.run_list.specs.Entries.{run_of, tables, entry_in, stored, Has, SameTables};
 ghost use Rattle.run_list.specs.Inserted.{is_taken, placed, Inserted};
 
 // A run, or 0 three times for none.
@@ -15,108 +14,87 @@ pub struct Run {
     pub period: u32,
 }
 
-// Entry k.
-fn load(starts: &[u32], ends: &[u32], periods: &[u32], k: usize) -> Run
-    requires { Has (lists starts.now ends.now periods.now) k }
-    ensures { run_of result ≡ entry_in (lists starts.now ends.now periods.now) k }
-{
-    Run {
-        start: starts[k],
-        end: ends[k],
-        period: periods[k],
+impl Run {
+    // By start and then by period.
+    #[tactic(auto, unfolding(repeats::specs::Report::before))]
+    fn comes_before(self, other: Run) -> bool
+        ensures { result ≡ before (run_of self) (run_of other) }
+    {
+        (self.start, self.period) < (other.start, other.period)
     }
 }
 
-fn store(starts: &mut [u32], ends: &mut [u32], periods: &mut [u32], k: usize, run: Run)
-    requires { Has (lists starts.old ends.old periods.old) k }
-    ensures { lists starts.new ends.new periods.new
-        ≡ stored (lists starts.old ends.old periods.old) k (run_of run) }
-{
-    starts[k] = run.start;
-    ends[k] = run.end;
-    periods[k] = run.period;
+// The first `count` entries of three lent tables. It is made by naming them, not by a function: of a slice that a function's result keeps, its
+// lender learns the length alone.
+#[derive(Drop)]
+pub struct RunList<'a> {
+    pub starts: &'a mut [u32],
+    pub ends: &'a mut [u32],
+    pub periods: &'a mut [u32],
+    pub count: usize,
 }
 
-// By start and then by period.
-fn comes_before(run: Run, other: Run) -> bool
-    ensures { result ≡ before (run_of run) (run_of other) }
-{
-    if run.start == other.start {
-        return run.period < other.period;
+impl RunList<'_> {
+    // Entry k.
+    fn entry(&self, k: usize) -> Run
+        requires { Has (tables self.now) k }
+        ensures { run_of result ≡ entry_in (tables self.now) k }
+    {
+        Run {
+            start: self.starts[k],
+            end: self.ends[k],
+            period: self.periods[k],
+        }
     }
-    run.start < other.start
-}
 
-// Whether the run comes before the entry that is before place j.
-fn is_passed(starts: &[u32], ends: &[u32], periods: &[u32], j: usize, run: Run) -> bool
-    requires { Has (lists starts.now ends.now periods.now) j }
-    ensures { result ≡ passes (lists starts.now ends.now periods.now) j (run_of run) }
-{
-    if j == 0 {
-        return false;
+    fn store(&mut self, k: usize, run: Run)
+        requires { Has (tables self.old) k }
+        ensures same { SameTables self.old self.new }
+        ensures count { self.new.count ≡ self.old.count }
+        ensures tables { tables self.new ≡ stored (tables self.old) k (run_of run) }
+    {
+        self.starts[k] = run.start;
+        self.ends[k] = run.end;
+        self.periods[k] = run.period;
     }
-    let other = load(starts, ends, periods, j - 1);
-    comes_before(run, other)
-}
 
-// Moves the entry before place j to place j.
-fn move_up(starts: &mut [u32], ends: &mut [u32], periods: &mut [u32], j: usize)
-    requires { Has (lists starts.old ends.old periods.old) j × (0 < j) }
-    ensures { lists starts.new ends.new periods.new
-        ≡ stored (lists starts.old ends.old periods.old) j
-        (entry_in (lists starts.old ends.old periods.old) (j - 1)) }
-{
-    starts[j] = starts[j - 1];
-    ends[j] = ends[j - 1];
-    periods[j] = periods[j - 1];
-}
+    // Whether there is a run, and in each table an entry for one more.
+    #[tactic(auto, unfolding(crate::specs::Inserted::is_taken))]
+    fn takes(&self, run: Run) -> bool
+        ensures { result ≡ is_taken (tables self.now) self.now.count (run_of run) }
+    {
+        run.period != 0
+            && self.count < self.starts.len()
+            && self.count < self.ends.len()
+            && self.count < self.periods.len()
+    }
 
-// Whether there is a run, and in each table an entry `count` for one more.
-fn is_taken(starts: &[u32], ends: &[u32], periods: &[u32], count: usize, run: Run) -> bool
-    ensures { result ≡ is_taken (lists starts.now ends.now periods.now) count (run_of run) }
-{
-    if run.period == 0 {
-        return false;
+    // Stores a run at its place: the entries that it comes before, from the last on, move up by one.
+    fn place(&mut self, run: Run)
+        requires { Has (tables self.old) self.old.count }
+        ensures same { SameTables self.old self.new }
+        ensures count { self.new.count ≡ self.old.count }
+        ensures tables { tables self.new ≡ placed self.old.count (tables self.old) (run_of run) }
+    {
+        let mut j = self.count;
+        // one pass over three tables, in which entries move while their place is looked for: no method of a slice does that
+        while j > 0 && run.comes_before(self.entry(j - 1)) {
+            let passed = self.entry(j - 1);
+            self.store(j, passed);
+            j -= 1;
+        }
+        self.store(j, run);
     }
-    if starts.len() <= count {
-        return false;
-    }
-    if ends.len() <= count {
-        return false;
-    }
-    count < periods.len()
-}
 
-// Stores a run at its place among the first `count` entries: those that it comes before, from the last on, move up by one.
-fn place(starts: &mut [u32], ends: &mut [u32], periods: &mut [u32], count: usize, run: Run)
-    requires { Has (lists starts.old ends.old periods.old) count }
-    ensures { lists starts.new ends.new periods.new
-        ≡ placed count (lists starts.old ends.old periods.old) (run_of run) }
-{
-    let mut j = count;
-    while is_passed(starts, ends, periods, j, run) {
-        move_up(starts, ends, periods, j);
-        j -= 1;
+    // Puts a run, if it is one, where it belongs. Where a table has no entry for one more, nothing is changed.
+    #[tactic(auto, using(crate::proofs::Inserting::taken_has, crate::proofs::Inserting::taken))]
+    pub fn insert(&mut self, run: Run)
+        ensures same { SameTables self.old self.new }
+        ensures inserted { Inserted self.old.count (run_of run) (tables self.old) (tables self.new) self.new.count }
+    {
+        if self.takes(run) {
+            self.place(run);
+            self.count += 1;
+        }
     }
-    store(starts, ends, periods, j, run);
-}
-
-// Puts a run, if it is one, into the first `count` entries, where it belongs; they are then as many as is returned. Where a table has no entry
-// for one more, nothing is changed and `count` is returned.
-pub fn insert(
-    starts: &mut [u32],
-    ends: &mut [u32],
-    periods: &mut [u32],
-    count: usize,
-    run: Run,
-) -> usize
-    ensures { Inserted count (run_of run) (lists starts.old ends.old periods.old)
-        (lists starts.new ends.new periods.new)
-        result }
-{
-    if is_taken(starts, ends, periods, count, run) {
-        place(starts, ends, periods, count, run);
-        return count + 1;
-    }
-    count
 }

@@ -1,29 +1,47 @@
 -- The refusals, test by test, and the ways out of the report.
 use mathlib.Core.Path.{◌≡◌, refl, sym, ap, ◌∙◌}
 use mathlib.Core.Logic.{◌≢◌, ◌⊎◌, inl, inr}
-use mathlib.Core.Bool.{Bool, true, false}
+use mathlib.Core.Bool.{Bool, true, false, false≢true}
 use mathlib.Core.List.{List, [], ◌∷◌, ◌++◌, map}
 use Prim.Native.Nat.{ℕ, ◌≤◌, ◌<◌}
 use native.Mathlib.Omega.{arith}
 use lib.ListN.{length, get_or, replicate}
-use borrow.Author.Tests.{eq-eqb, ne_eqb}
 use Rattle.refusal.specs.declared.Refusal.TheVariants.{TooLong, TableLength, ListLengths, TooManyRuns}
-use Rattle.refusal.specs.declared.Answer.{Answer}
-use Rattle.refusal.specs.Answers.{value, refused, figures_of, answered}
-use Rattle.refusal.specs.Numbers.{number_if, first_of, unless_refused}
+use Rattle.refusal.specs.declared.Refusal.{Refusal}
+use Rattle.std.specs.Prelude.{Result, Ok, Err}
+use Rattle.suffix.proofs.Cases.{Same, same, other, same?}
+use Rattle.refusal.specs.Answers.{Figures, value, refused, figures_of, answered}
+use Rattle.refusal.specs.Numbers.{number_of, number_if, first_of, unless_refused}
 use Rattle.refusal.specs.Conditions.{too_long}
-use Rattle.refusal.proofs.Numbers.{unless_taken, unless_refused_lem}
-use Rattle.refusal.proofs.Answers.{answered_value}
+use Rattle.refusal.proofs.Numbers.{positive, unless_taken, unless_refused_lem}
+use Rattle.refusal.proofs.Answers.{answered_value, answered_told}
 use Rattle.repeats.specs.Report.{runs}
 use Rattle.repeats.specs.Refusals.{Lists, lists, work_length_off, list_lengths_differ, too_many_runs, lengths_refusal, runs_refusal}
 use Rattle.repeats.specs.Answers.{answer, lists_of, lists_after, zeros}
 use Rattle.repeats.proofs.Gathering.{runs_most}
 use Rattle.repeats.proofs.Laws.{refusals_leave}
-use Rattle.roots.specs.WorkTables.{work_refusal, work_with, Gathered}
+use Rattle.roots.specs.declared.WorkTables.{WorkTables}
+use Rattle.roots.specs.WorkTables.{work_in, work_refusal, work_with, Gathered}
 use Rattle.roots.proofs.Refusing.{fitting}
-use Rattle.runs.specs.Lists.{room_refusal, Written, Ended, value_or0}
+use Rattle.runs.specs.Lists.{room_refusal, HasRoom, Written, Ended}
 use Rattle.runs.specs.Reported.{work_of, Reported}
 use Rattle.runs.proofs.Writing.{lists_end, cut_lists, lists_length}
+
+-- the refusal that is told
+abbrev is_value : Figures → Bool
+is_value (value x) = true
+is_value (refused x) = false
+
+abbrev figure : Figures → ℕ
+figure (value x) = x
+figure (refused x) = x
+
+refused_told : (number v k : ℕ) → refused k ≡ answered number v → k ≡ number
+refused_told number v k h = go (same? number 0)
+  where
+    go : Same number 0 → k ≡ number
+    go (same e) = absurd (false≢true (ap is_value (h ∙ sym (answered_value number v e))))
+    go (other e) = ap figure (h ∙ unless_refused_lem number (value v) (refused number) e)
 
 -- ---- 1, 2 and 12, by their tests a, b and c, and then 13, by its test d
 
@@ -80,18 +98,11 @@ module _ (n : ℕ) (work : List ℕ) (starts ends periods : ℕ) where
     unfolding work_refusal lengths_refusal
     says b z e = z ∙ ap (λ d. number_if d ListLengths) (sym e) ∙ sym (work_none (too_long n) (work_length_off n work) differ w)
 
-    pub says_twelve : ends ≢ starts → {k : ℕ} → k ≡ 12 → k ≡ by_lengths
-    says_twelve e z = says true z (rw (ne_eqb ends starts e))
+    pub says_twelve : differ ≡ true → 12 ≡ by_lengths
+    says_twelve e = says true refl e
 
-    pub says_twelve_too : ends ≡ starts → periods ≢ starts → {k : ℕ} → k ≡ 12 → k ≡ by_lengths
-    says_twelve_too e q z = says true z (rw (eq-eqb ends starts e, ne_eqb periods starts q))
-
-    pub says_none : ends ≡ starts → periods ≡ starts → {k : ℕ} → k ≡ 0 → k ≡ by_lengths
-    says_none e q z = says false z (rw (eq-eqb ends starts e, eq-eqb periods starts q))
-
-  taken_work : by_lengths ≡ 0 → work_refusal n work ≡ 0
-  unfolding work_refusal lengths_refusal
-  taken_work h = (lengths_none (too_long n) (work_length_off n work) differ false h).0
+    pub says_none : differ ≡ false → 0 ≡ by_lengths
+    says_none e = says false refl e
 
 -- ---- the two ways out
 
@@ -130,7 +141,7 @@ module _ (y : List ℕ) (work : List (List ℕ)) (lent : Lists) where
         go true e = inr e
         go false e = inl e
 
-    written_all : {after : Lists} {r : Answer} → Written (length (runs y)) (lists_of (runs y) (length y)) lent after r → {cleared : List (List ℕ)} → cleared ≡ map zeros work
+    written_all : {after : Lists} {r : Result ℕ Refusal} → Written (length (runs y)) (lists_of (runs y) (length y)) lent after r → {cleared : List (List ℕ)} → cleared ≡ map zeros work
         → Reported y work lent cleared after (figures_of r)
     unfolding answer lists_after
     written_all W w =
@@ -142,44 +153,73 @@ module _ (y : List ℕ) (work : List (List ℕ)) (lent : Lists) where
           leaves_work = w ∙ sym ((refusals_leave y work lent).cleared writes_work);
         }
 
--- The runs are gathered in the tables a to f, which were g to l: where lengths refuse nothing, nothing is refused there.
-module _ (y : List ℕ) (lent : Lists) {g h i j k l a b c d e f : List ℕ}
-    (taken : lengths_refusal (length y) (map length (work_of g h i j k l)) (length lent.starts) (length lent.ends) (length lent.periods) ≡ 0)
-    {r : Answer} (G : Gathered y (work_of g h i j k l) (work_of a b c d e f) r) {count : ℕ} (C : count ≡ value_or0 (figures_of r)) where
+  -- ---- by the tests of the lengths
+
+  abbrev of_work : ℕ
+  of_work = work_refusal (length y) (map length work)
+
+  -- the work tables are refused
+  work_refused : (k : Refusal) → number_of k ≡ of_work → Reported y work lent work lent (refused (number_of k))
+  work_refused k e = refused_by_lengths (number_of k) (positive k) (says_work (length y) (map length work) size (length lent.ends) (length lent.periods) (λ z. omega (arith, positive k, z)) e)
+
+  module _ {n : ℕ} (long : n ≡ length y) where
+    of_length : {k : ℕ} → k ≡ work_refusal n (map length work) → k ≡ of_work
+    of_length e = e ∙ ap (λ n. work_refusal n (map length work)) long
+
+    pub refused_first : (k : Refusal) → number_of k ≡ work_refusal n (map length work) → Reported y work lent work lent (refused (number_of k))
+    refused_first k e = work_refused k (of_length e)
+
+    pub lists_differ : 0 ≡ work_refusal n (map length work) → differ_in_length ≡ true → Reported y work lent work lent (refused 12)
+    lists_differ e d =
+        refused_by_lengths 12 (omega arith) (says_twelve (length y) (map length work) size (length lent.ends) (length lent.periods) (sym (of_length e)) d)
+
+  -- what the gathering refuses
+  pub gathering_refused : {k : Refusal} {after : List (List ℕ)} → Gathered y work after (Err k) → Reported y work lent after lent (refused (number_of k))
+  gathering_refused {k} G =
+      let e = refused_told of_work (length (runs y)) (number_of k) G.answers in
+      let same : work ≡ _ = sym (unless_refused_lem of_work (work_with (runs y) (length y)) work (λ z. omega (arith, positive k, e, z))) ∙ sym G.leaves in
+      rw (sym same) (work_refused k e)
+
+-- The runs are gathered in the tables v, which were w.
+module _ (y : List ℕ) (w v : WorkTables) {count : ℕ} (G : Gathered y (work_in w) (work_in v) (Ok count)) where
   abbrev n : ℕ
   n = length y
 
   abbrev found : Lists
   found = lists_of (runs y) n
 
-  none : work_refusal n (map length (work_of g h i j k l)) ≡ 0
-  none = taken_work n (map length (work_of g h i j k l)) (length lent.starts) (length lent.ends) (length lent.periods) taken
+  none : (work_refusal n (map length (work_in w)) ≡ 0) × (count ≡ length (runs y))
+  none = answered_told (work_refusal n (map length (work_in w))) (length (runs y)) count G.answers
 
-  all_counted : count ≡ length (runs y)
-  all_counted = C ∙ ap value_or0 (G.answers ∙ sym (answered_value (work_refusal n (map length (work_of g h i j k l))) (length (runs y)) none))
+  taken : (lent : Lists) → list_lengths_differ (length lent.starts) (length lent.ends) (length lent.periods) ≡ false
+      → lengths_refusal n (map length (work_in w)) (length lent.starts) (length lent.ends) (length lent.periods) ≡ 0
+  taken lent even = sym (says_none n (map length (work_in w)) (length lent.starts) (length lent.ends) (length lent.periods) none.0 even)
 
   -- table m of the six
-  nth : (m : ℕ) → get_or (work_of a b c d e f) m [] ≡ get_or (work_with (runs y) n) m []
-  nth m = ap (λ (w : List (List ℕ)). get_or w m []) (G.leaves ∙ unless_taken _ _ _ none)
+  nth : (m : ℕ) → get_or (work_in v) m [] ≡ get_or (work_with (runs y) n) m []
+  nth m = ap (λ (t : List (List ℕ)). get_or t m []) (G.leaves ∙ unless_taken _ _ _ none.0)
 
-  in_tables : (a ≡ found.starts) × (b ≡ found.periods) × (c ≡ found.ends)
+  in_tables : (v.previous.now ≡ found.starts) × (v.next.now ≡ found.periods) × (v.previous_match.now ≡ found.ends)
   unfolding work_with
   in_tables = (nth 0, nth 1, nth 2)
 
-  empty : (d ≡ replicate n 0) × (e ≡ replicate n 0) × (f ≡ replicate n 0)
+  empty : (v.next_match.now ≡ replicate n 0) × (v.reverse_next.now ≡ replicate n 0) × (v.reverse_match.now ≡ replicate n 0)
   unfolding work_with
   empty = (nth 3, nth 4, nth 5)
 
-  pub tables_end : Ended count a × Ended count b × Ended count c
-  tables_end = let t = in_tables in rw (t.0, t.1, t.2, all_counted) (lists_end (runs y) n (omega (arith, runs_most y)))
+  pub tables_end : Ended count v.previous.now × Ended count v.next.now × Ended count v.previous_match.now
+  tables_end = let t = in_tables in rw (t.0, t.1, t.2, none.1) (lists_end (runs y) n (omega (arith, runs_most y)))
 
-  pub reported : {after : Lists} {x : Answer} → Written count (lists a c b) lent after x → {a' b' c' : List ℕ} → a' ≡ zeros a → b' ≡ zeros b → c' ≡ zeros c
-      → Reported y (work_of g h i j k l) lent (work_of a' b' c' d e f) after (figures_of x)
-  reported W {a'} {b'} {c'} p q o =
+  pub has_room : HasRoom count (lists v.previous.now v.previous_match.now v.next.now)
+  has_room = let E = tables_end in record { starts = E.0.room; ends = E.2.room; periods = E.1.room }
+
+  pub reported : (lent : Lists) → list_lengths_differ (length lent.starts) (length lent.ends) (length lent.periods) ≡ false → {after : Lists} {x : Result ℕ Refusal} → Written count (lists v.previous.now v.previous_match.now v.next.now) lent after x → {a b c : List ℕ} → a ≡ zeros v.previous.now → b ≡ zeros v.next.now
+      → c ≡ zeros v.previous_match.now → Reported y (work_in w) lent (work_of a b c v.next_match.now v.reverse_next.now v.reverse_match.now) after (figures_of x)
+  reported lent even W {a} {b} {c} p q o =
       let t = in_tables in
       let u = empty in
       let L = lists_length (runs y) n in
-      let F = fitting n _ _ _ _ _ _ none in
-      let z : work_of a' b' c' d e f ≡ map zeros (work_of g h i j k l) =
+      let F = fitting n _ _ _ _ _ _ none.0 in
+      let z : work_of a b c v.next_match.now v.reverse_next.now v.reverse_match.now ≡ map zeros (work_in w) =
       rw (p, q, o, t.0, t.1, t.2, L.0, L.1, L.2, u.0, u.1, u.2, F.previous, F.next, F.previous_match, F.next_match, F.reverse_next, F.reverse_match) in
-      written_all y (work_of g h i j k l) lent taken (rw (t.0, t.1, t.2, all_counted) at W) z
+      written_all y (work_in w) lent (taken lent even) (rw (t.0, t.1, t.2, none.1) at W) z

@@ -1,11 +1,22 @@
 -- What the contracts of the functions that write the lists are written with.
-use Rattle.std.specs.Prelude.{◌≡◌, true, false, List, ℕ, ◌≤◌, ◌<◌, ltb, length, get_or}
+use Rattle.std.specs.Prelude.{◌≡◌, true, false, List, ℕ, ◌≤◌, ◌<◌, ltb, length, get_or, Result}
 use Rattle.suffix.specs.Search.{tabulate}
-use Rattle.refusal.specs.declared.Answer.{Answer}
+use Rattle.refusal.specs.declared.Refusal.{Refusal}
 use Rattle.refusal.specs.declared.Refusal.TheVariants.{TooManyRuns}
 use Rattle.refusal.specs.Numbers.{number_if, unless_refused}
-use Rattle.refusal.specs.Answers.{Figures, value, refused, figures_of, answered}
+use Rattle.refusal.specs.Answers.{figures_of, answered}
 use Rattle.repeats.specs.Refusals.{Lists, lists}
+use Rattle.runs.specs.declared.Lists as declared
+
+-- what the three lists hold
+abbrev pub lists_in : declared.Lists → Lists
+lists_in l = lists l.starts.now l.ends.now l.periods.now
+
+-- the same memory is lent
+pub record SameLists (before after : declared.Lists) : Type 0 where
+  pub starts : after.starts.ghost_name ≡ before.starts.ghost_name
+  pub ends : after.ends.ghost_name ≡ before.ends.ghost_name
+  pub periods : after.periods.ghost_name ≡ before.periods.ghost_name
 
 -- the first c entries, and 0 from there on
 unfoldable pub cut_at : ℕ → List ℕ → ℕ → ℕ
@@ -20,7 +31,7 @@ abbrev pub room_refusal : (count size : ℕ) → ℕ
 room_refusal count size = number_if (ltb size count) TooManyRuns
 
 -- the first c entries are written to the lists, unless they are too many
-pub record Written (c : ℕ) (tables before after : Lists) (r : Answer) : Type 0 where
+pub record Written (c : ℕ) (tables before after : Lists) (r : Result ℕ Refusal) : Type 0 where
   pub answers : figures_of r ≡ answered (room_refusal c (length before.starts)) c
   pub leaves : after ≡ unless_refused (room_refusal c (length before.starts)) (cut c tables (length before.starts)) before
 
@@ -29,7 +40,8 @@ pub record Ended (c : ℕ) (t : List ℕ) : Type 0 where
   pub room : c ≤ length t
   pub beyond : (k : ℕ) → c ≤ k → k < length t → get_or t k 0 ≡ 0
 
--- the value that is answered, or 0
-abbrev pub value_or0 : Figures → ℕ
-value_or0 (value v) = v
-value_or0 (refused number) = 0
+-- each of three tables has c entries
+pub record HasRoom (c : ℕ) (t : Lists) : Type 0 where
+  pub starts : c ≤ length t.starts
+  pub ends : c ≤ length t.ends
+  pub periods : c ≤ length t.periods

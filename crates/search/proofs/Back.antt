@@ -11,13 +11,10 @@ use lib.Signed.{mag}
 use Rattle.refusal.specs.Conditions.{bit_of}
 use Rattle.excess.specs.Excess.{half_excess, half_min_excess}
 use Rattle.search.specs.Searching.{walk_back}
-use Rattle.search.specs.Steps.{is_minus, turned_sum, found_at, left_back, ReadyBack, GoingBack, WentBack}
+use Rattle.search.specs.Steps.{is_minus, turned_sum, found_at, left_back, GoingBack, WentBack}
 use Rattle.search.proofs.Signed.{mag_turned, not_minus}
 use Rattle.search.proofs.Walks.{back_same, back_opening, back_closing}
 use Rattle.search.proofs.Bytes.{tested_back, along_back}
-
-pub back_start : {t : List ℕ} {k e : ℕ} {sum : ℤ} → ReadyBack t k e sum → GoingBack t k e sum k sum
-back_start R = record { ready = R; same = refl }
 
 -- one bracket back
 back_bit : (t : List ℕ) (k v : ℕ) (b : Bool) → b ≡ bit_of t k → left_back t k (turned_sum (not b) v) ≡ walk_back (bit_of t) (suc k) v
@@ -49,9 +46,6 @@ module _ {t : List ℕ} {k e : ℕ} {sum : ℤ} {at : ℕ} {came : ℤ} (G : Goi
           same = same_bit;
         }
 
-  pub back_ended : at ≡ e → WentBack t k e sum at came
-  back_ended q = record { same = G.same; small = G.ready.small; within = G.ready.ahead; ends = λ m. q }
-
   -- from where it stands
   pub back_then : {at' : ℕ} {came' : ℤ} → WentBack t at e came at' came' → WentBack t k e sum at' came'
   back_then W = record { same = W.same ∙ G.same; small = W.small; within = W.within; ends = W.ends }
@@ -76,14 +70,8 @@ module _ {t : List ℕ} {k : ℕ} {sum : ℤ} {j : ℕ} {came : ℤ} (G : GoingB
 pub leg_going : {t : List ℕ} {k e f : ℕ} {sum : ℤ} {at : ℕ} {came : ℤ} → WentBack t k e sum at came → is_minus came ≡ false → f ≤ e → length t ≤ 250000 → GoingBack t k f sum at came
 leg_going {came = came} W m h l = record { ready = record { low = not_minus came m; small = W.small; ahead = omega (arith, W.within); few = l }; same = W.same }
 
-pub leg_fell : {t : List ℕ} {k e f : ℕ} {sum : ℤ} {at : ℕ} {came : ℤ} → WentBack t k e sum at came → is_minus came ≡ true → f ≤ e → WentBack t k f sum at came
-leg_fell W m h = record { same = W.same; small = W.small; within = omega (arith, W.within); ends = λ f. absurd (true≢false (sym m ∙ f)) }
-
 -- from a byte's edge to bit 0
 module _ {t : List ℕ} {k : ℕ} {sum : ℤ} {at : ℕ} {came : ℤ} (G : GoingBack t k 0 sum at came) (j : ℕ) {start : ℤ} (edge : 8 * j ≡ at) (q : start ≡ came) where
-  pub leg_ready : ReadyBack t (8 * j) 0 start
-  leg_ready = rw (edge, q) G.ready
-
   pub leg_passed : {at' : ℕ} {came' : ℤ} → GoingBack t (8 * j) 0 start at' came' → GoingBack t k 0 sum at' came'
   leg_passed P = record { ready = P.ready; same = P.same ∙ ap₂ (left_back t) edge q ∙ G.same }
 

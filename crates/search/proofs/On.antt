@@ -17,9 +17,6 @@ use Rattle.search.proofs.Signed.{mag_turned, not_minus}
 use Rattle.search.proofs.Walks.{on_same, on_opening, on_closing}
 use Rattle.search.proofs.Bytes.{tested_half, tested_on, along_on}
 
-pub on_start : {t : List ℕ} {k e : ℕ} {sum : ℤ} → ReadyOn t k e sum → GoingOn t k e sum k sum
-on_start R = record { ready = R; same = λ f h. refl }
-
 -- one bracket on
 on_bit : (t : List ℕ) (f k v : ℕ) (b : Bool) → k < f → b ≡ bit_of t k → left_on t f (k + 1) (turned_sum b v) ≡ walk_on (bit_of t) (f - k) k v
 on_bit t f k v b h e = sym (on_same (bit_of t) {m = f - k} {n = suc (f - (k + 1))} (omega arith) refl refl ∙ go b v e)
@@ -52,9 +49,6 @@ module _ {t : List ℕ} {k e : ℕ} {sum : ℤ} {at : ℕ} {came : ℤ} (G : Goi
           ready = record { low = not_minus came' m; small = small_bit; ahead = omega (arith, G.ready.ahead); inside = G.ready.inside; few = G.ready.few };
           same = same_bit;
         }
-
-  pub on_ended : at ≡ e → WentOn t k e sum at came
-  on_ended q = record { same = G.same; small = G.ready.small; within = G.ready.ahead; ends = λ m. q }
 
   -- from where it stands
   pub on_then : {at' : ℕ} {came' : ℤ} → WentOn t at e came at' came' → WentOn t k e sum at' came'
@@ -89,19 +83,20 @@ module _ {t : List ℕ} {k f : ℕ} {sum : ℤ} {j : ℕ} {came : ℤ} (G : Goin
         same = λ e h. ap (left_on t e (8 * (j + 1))) A.0 ∙ along_on t j 8 (omega arith) (rw eb at A.1) (8 * (j + 1)) e (omega arith) (omega (arith, G.ready.ahead)) ∙ sym (left G e) ∙ G.same e h;
       }
 
-  -- on to byte g
-  pub bytes_ready : {g : ℕ} → j ≤ g → g ≤ f → ReadyOn t (8 * j) (8 * g) came
-  bytes_ready h w = record { low = G.ready.low; small = G.ready.small; ahead = omega arith; inside = omega (arith, G.ready.inside); few = G.ready.few }
-
--- the lower half of the byte that it stands at
-pub half_going : {t : List ℕ} (j : ℕ) {e : ℕ} {sum : ℤ} → ReadyOn t (8 * j) e sum → {k : ℕ} → k ≡ 8 * j + 4 → k ≤ e → {h : ℕ} → h ≡ get_or t j 0 % 16 → {came : ℤ}
-    → is_minus (sum +ℤ half_min_excess h) ≡ false → came ≡ sum +ℤ half_excess h → GoingOn t (8 * j) e sum k came
-half_going {t} j {e} {sum} R {k} p w {h} eh {came} m q =
+-- the lower half of byte j
+half_from : {t : List ℕ} (j : ℕ) {e : ℕ} {sum : ℤ} → ReadyOn t (8 * j) e sum → {k : ℕ} → k ≡ 8 * j + 4 → k ≤ e → {h : ℕ} → h ≡ get_or t j 0 % 16 → {came : ℤ} → is_minus (sum +ℤ half_min_excess h) ≡ false
+    → came ≡ sum +ℤ half_excess h → GoingOn t (8 * j) e sum k came
+half_from {t} j {e} {sum} R {k} p w {h} eh {came} m q =
     let A = tested_half (get_or t j 0) R.low (ap (λ x. is_minus (sum +ℤ half_min_excess x)) (sym eh) ∙ m) (q ∙ ap (λ x. sum +ℤ half_excess x) eh) in
     record {
       ready = record { low = A.0; small = omega (arith, A.1.sums, ones_most (get_or t j 0) 4, R.small); ahead = w; inside = R.inside; few = R.few };
       same = λ f u. ap (left_on t f k) A.0 ∙ along_on t j 4 (omega arith) A.1 k f p (omega arith) ∙ sym (ap (left_on t f (8 * j)) R.low);
     }
+
+-- of the one that it stands at
+pub half_going : {t : List ℕ} {at e : ℕ} {sum : ℤ} → at % 8 ≡ 0 → ReadyOn t at e sum → {k : ℕ} → k ≡ at + 4 → k ≤ e → {h : ℕ} → h ≡ get_or t (at / 8) 0 % 16 → {came : ℤ} → is_minus (sum +ℤ half_min_excess h) ≡ false
+    → came ≡ sum +ℤ half_excess h → GoingOn t at e sum k came
+half_going {at = at} edge R p w eh m q = let z : 8 * (at / 8) ≡ at = omega arith in rw z at (half_from (at / 8) (rw z R) (omega arith) w eh m q)
 
 -- ---- the legs of a search
 
@@ -116,16 +111,8 @@ leg_going {came = came} W m h i l =
 pub leg_ended : {t : List ℕ} {k e f : ℕ} {sum : ℤ} {at : ℕ} {came : ℤ} → WentOn t k e sum at came → at ≡ f → e ≤ f → WentOn t k f sum at came
 leg_ended W q h = record { same = λ g w. W.same g (omega arith); small = W.small; within = omega arith; ends = λ m. q }
 
-pub leg_fell : {t : List ℕ} {k e f : ℕ} {sum : ℤ} {at : ℕ} {came : ℤ} → WentOn t k e sum at came → is_minus came ≡ true → e ≤ f → WentOn t k f sum at came
-leg_fell W m h = record { same = λ g w. W.same g (omega arith); small = W.small; within = omega (arith, W.within); ends = λ f. absurd (true≢false (sym m ∙ f)) }
-
 -- from a byte's edge to the last one before the end
 module _ {t : List ℕ} {k e : ℕ} {sum : ℤ} {at : ℕ} {came : ℤ} (G : GoingOn t k e sum at came) (j : ℕ) {start : ℤ} (edge : 8 * j ≡ at) (q : start ≡ came) where
-  pub leg_ready : ReadyOn t (8 * j) (8 * (e / 8)) start
-  leg_ready =
-      rw (edge, q)
-      (record { low = G.ready.low; small = G.ready.small; ahead = omega (arith, G.ready.ahead); inside = omega (arith, G.ready.inside); few = G.ready.few })
-
   pub leg_passed : {at' : ℕ} {came' : ℤ} → GoingOn t (8 * j) (8 * (e / 8)) start at' came' → GoingOn t k e sum at' came'
   leg_passed P = on_on G (omega arith) (rw (edge, q) at P)
 

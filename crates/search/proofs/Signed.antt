@@ -2,22 +2,21 @@
 use mathlib.Core.Path.{◌≡◌, refl, ap, ap₂, ◌∙◌}
 use mathlib.Core.Bool.{Bool, true, false, true≢false}
 use mathlib.Core.List.{List}
-use Prim.Native.Nat.{ℕ, zero, suc, ◌+◌, ◌-◌, ◌*◌, ◌^◌, ◌≤◌, ◌<◌}
+use Prim.Native.Nat.{ℕ, zero, suc, ◌+◌, ◌*◌, ◌≤◌, ◌<◌}
 use native.Mathlib.Omega.{arith}
-use lib.Dec.{eqb}
 use lib.IntN.{ℤ, pos, negsuc, sub_ℕ, ◌+ℤ◌, ◌-ℤ◌}
 use lib.ListN.{get_or}
 use lib.Signed.{mag, lt_z}
-use borrow.Author.Tests.{le-ltb, ne_eqb}
+use borrow.Author.Tests.{le-ltb}
 use mir.Syntax.{Width, w32, w64}
-use mir.Val.{SFits, bits, to_z, of_z}
+use mir.Val.{SFits, to_z, of_z}
 use mir.Facts.{to_z-of_z}
 use Rattle.excess.specs.Excess.{half_excess, half_min_excess, list_from, excesses, min_excesses}
 use Rattle.excess.proofs.Entries.{entry}
-use Rattle.excess.proofs.Differences.{sub_up, neg_sub, mag_sub, mag_plus}
+use Rattle.excess.proofs.Differences.{neg_sub, mag_sub, mag_plus}
 use Rattle.excess.proofs.Sums.{ones, dip, ones_most, dip_most}
 use Rattle.excess.proofs.Halves.{half_excess_lem, half_lowest}
-use Rattle.search.specs.Steps.{is_minus, is_zero, turned_sum}
+use Rattle.search.specs.Steps.{is_minus, turned_sum}
 
 -- a number that fits is what its bits say
 pub back : (z : ℤ) → mag z < 2147483648 → to_z w32 (of_z w32 z) ≡ z
@@ -29,10 +28,6 @@ fits h = record { sfits = h }
 pub negative : (z : ℤ) → lt_z z (pos 0) ≡ is_minus z
 negative (pos v) = le-ltb v 0 (omega arith)
 negative (negsuc v) = refl
-
-pub zero_is : (z : ℤ) → mag z < 2147483648 → eqb (of_z w32 z) 0 ≡ is_zero z
-zero_is (pos v) h = refl
-zero_is (negsuc v) h = ne_eqb (2 ^ bits w32 - suc v) 0 (omega arith)
 
 -- a sum that is not below 0
 pub not_minus : (z : ℤ) → is_minus z ≡ false → z ≡ pos (mag z)
@@ -89,24 +84,7 @@ module _ (z : ℤ) {bound : ℕ} (small : mag z ≤ bound) (h : ℕ) {came : ℤ
   pub start_small : came ≡ z -ℤ half_excess h → mag came ≤ bound + 13
   start_small e = rw (e, half_excess_lem h, neg_sub (2 * ones h 4) 4) (omega (arith, mag_plus z 4 (2 * ones h 4), ones_most h 4))
 
-module _ (z : ℤ) (low : z ≡ pos (mag z)) (small : mag z ≤ 2000000) where
-  plain : to_z w32 (of_z w32 z) ≡ pos (mag z)
-  plain = back z (omega arith) ∙ low
-
-  pub raised : to_z w32 (of_z w32 z) +ℤ pos 1 ≡ pos (mag z + 1)
-  raised = ap (λ x. x +ℤ pos 1) plain
-
-  pub lowered : to_z w32 (of_z w32 z) -ℤ pos 1 ≡ turned_sum false (mag z)
-  lowered = ap (λ x. x -ℤ pos 1) plain ∙ go (mag z)
-    where
-      go : (v : ℕ) → pos v -ℤ pos 1 ≡ turned_sum false v
-      go zero = refl
-      go (suc v) = sub_up (suc v) 1 (omega arith) ∙ ap pos (omega arith)
-
 pub mag_turned : (up : Bool) (v : ℕ) → mag (turned_sum up v) ≤ v + 1
 mag_turned true v = omega arith
 mag_turned false zero = omega arith
 mag_turned false (suc v) = omega arith
-
-pub turned_small : (up : Bool) (v : ℕ) → v ≤ 2000000 → {came : ℤ} → came ≡ turned_sum up v → mag came ≤ 3000000
-turned_small up v h e = rw e (omega (arith, mag_turned up v))

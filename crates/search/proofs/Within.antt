@@ -1,6 +1,6 @@
 -- Where the bits lie in order a search is a walk, and elsewhere it does not start.
 use mathlib.Core.Path.{◌≡◌, sym}
-use mathlib.Core.Bool.{true, false, ◌&&◌}
+use mathlib.Core.Bool.{true, ◌&&◌}
 use mathlib.Core.List.{List}
 use Prim.Native.Nat.{ℕ, ◌-◌, ◌*◌, ◌≤◌}
 use lib.Dec.{leb}
@@ -8,7 +8,7 @@ use lib.ListN.{length}
 use borrow.Author.Tests.{leb-true, le-leb}
 use Rattle.suffix.proofs.Cases.{both_true}
 use Rattle.refusal.specs.Conditions.{bit_of}
-use Rattle.search.specs.Searching.{walk_on, walk_back, is_within, not_started, forward_found, backward_found}
+use Rattle.search.specs.Searching.{walk_on, walk_back, is_within, forward_found, backward_found}
 
 pub record Within (bytes a e : ℕ) : Type 0 where
   pub few : bytes ≤ 250000
@@ -29,10 +29,6 @@ module _ (t : List ℕ) (a e : ℕ) where
   unfolding forward_found
   forward_walks h = rw (h, forward_found)
 
-  pub forward_none : is_within (length t) a e ≡ false → not_started a ≡ forward_found t a e
-  unfolding forward_found
-  forward_none h = rw (h, forward_found)
-
   -- what a search finds that is asked for in a tree
   pub forward_is : Within (length t) a e → forward_found t a e ≡ walk_on (bit_of t) (e - a) a 0
   forward_is W = sym (forward_walks (is_within_lem (length t) a e W))
@@ -41,10 +37,6 @@ module _ (t : List ℕ) (a : ℕ) where
   pub backward_walks : is_within (length t) 0 a ≡ true → walk_back (bit_of t) a 0 ≡ backward_found t a
   unfolding backward_found
   backward_walks h = rw (h, backward_found)
-
-  pub backward_none : is_within (length t) 0 a ≡ false → not_started a ≡ backward_found t a
-  unfolding backward_found
-  backward_none h = rw (h, backward_found)
 
   pub backward_is : Within (length t) 0 a → backward_found t a ≡ walk_back (bit_of t) a 0
   backward_is W = sym (backward_walks (is_within_lem (length t) 0 a W))

@@ -1,5 +1,5 @@
 -- What the private functions of a search promise each other.
-use Rattle.std.specs.Prelude.{◌≡◌, Bool, true, false, List, ℕ, zero, suc, ◌+◌, ◌-◌, ◌*◌, ◌≤◌, eqb, ℤ, pos, negsuc, length}
+use Rattle.std.specs.Prelude.{◌≡◌, Bool, true, false, List, ℕ, zero, suc, ◌+◌, ◌-◌, ◌*◌, ◌≤◌, ℤ, pos, negsuc, length}
 use Rattle.std.specs.Int.Signed.{mag}
 use Rattle.refusal.specs.Conditions.{bit_of}
 use Rattle.search.specs.Searching.{fell_at, ended_at, walk_on, walk_back}
@@ -8,10 +8,6 @@ use Rattle.search.specs.declared.Found.{Found}
 abbrev pub is_minus : ℤ → Bool
 is_minus (pos v) = false
 is_minus (negsuc v) = true
-
-abbrev pub is_zero : ℤ → Bool
-is_zero (pos v) = eqb v 0
-is_zero (negsuc v) = false
 
 -- the sum v, one more or one less
 abbrev pub turned_sum : Bool → ℕ → ℤ

@@ -1,6 +1,6 @@
 -- The tree after a tree: the search from the right for the last opening in front of which something is open, and what is written there.
 use mathlib.Core.Path.{◌≡◌, refl, sym, ap, ◌∙◌}
-use mathlib.Core.Bool.{Bool, true, false}
+use mathlib.Core.Bool.{Bool, true, false, cond}
 use mathlib.Core.List.{List, [], ◌∷◌, ◌++◌, map}
 use Prim.Native.Nat.{ℕ, zero, suc, ◌+◌, ◌-◌, ◌*◌, ◌≤◌, ◌<◌}
 use native.Mathlib.Omega.{arith}
@@ -11,12 +11,15 @@ use borrow.Author.Tests.{lt-ltb, le-ltb, ne_eqb}
 use Rattle.suffix.specs.Tree.{byte_of, tree_length}
 use Rattle.suffix.proofs.Cases.{Tri, lt, eq, gt, tri}
 use Rattle.suffix.proofs.Search.{tabulate_same}
-use Rattle.refusal.specs.Conditions.{bit_of}
+use Rattle.refusal.specs.Conditions.{bit_of, tree_refusal}
+use Rattle.shape.proofs.Conditions.{tree_flaw}
+use Rattle.shape.proofs.Laws.{whole}
 use Rattle.shape.proofs.Heights.{opened}
 use Rattle.shape.proofs.Heights.{opened_none, opens, shuts}
 use Rattle.shape.proofs.Reading.{Balanced}
 use Rattle.all_trees.specs.Trees.{chosen, brackets_from, brackets_of, tree_of, before, first_tree, trees_after, next_tree, is_last}
-use Rattle.small_trees.specs.Steps.{changed_bit, changed_tree}
+use Rattle.small_trees.specs.Answers.{next, last}
+use Rattle.small_trees.specs.Steps.{changed_bit, changed_tree, Stepped}
 use Rattle.all_trees.specs.Claims.{IsBalanced}
 use Rattle.all_trees.proofs.Closing.{kept, peak, behind, behind_end, none_closing, none_opening, turned, lifted, Begins}
 use Rattle.all_trees.proofs.Trees.{brackets_length, brackets_entry, tree_even, after_are}
@@ -188,3 +191,47 @@ module _ (n : ℕ) (t : List ℕ) (T : IsBalanced n t) where
     pub last_kept : t ≡ next_tree n t
     unfolding next_tree
     last_kept = sym (ap (λ l. get_or l 0 t) none_after)
+
+-- the tree is as it was, and its brackets from bit k on are passed
+pub record Searching (n : ℕ) (t now : List ℕ) (k o : ℕ) : Type 0 where
+  pub kept : now ≡ t
+  pub long : length now ≤ 3
+  pub few : o ≤ n
+  pub tree : IsBalanced n t
+  pub passed : Passed n t k o
+
+pub search_start : (n : ℕ) (t : List ℕ) → n ≤ 12 → tree_refusal n t ≡ 0 → ((j : ℕ) → get_or t j 0 < 256) → Searching n t t (2 * n) 0
+search_start n t h e b =
+    let W = whole n t e in
+    let T : IsBalanced n t = record { bytes = b; size = W.bytes; balanced = sym (tree_flaw n t W.small W.bytes) ∙ e } in
+    record { kept = refl; long = omega (arith, W.bytes); few = omega arith; tree = T; passed = pass_start n t T }
+
+-- the next bracket is that at bit k - 1
+module _ {n : ℕ} {t now : List ℕ} {k o : ℕ} (S : Searching n t now k o) where
+  module _ (some : 0 < k) {b : Bool} (is_next : b ≡ bit_of now (k - 1)) where
+    P : Passed n t (suc (k - 1)) o
+    P = let z : suc (k - 1) ≡ k = omega arith in rw z S.passed
+
+    bit_is : b ≡ bit_of t (k - 1)
+    bit_is = is_next ∙ ap (λ u. bit_of u (k - 1)) S.kept
+
+    pub search_closing : b ≡ false → Searching n t now (k - 1) o
+    search_closing e = record { kept = S.kept; long = S.long; few = S.few; tree = S.tree; passed = pass_closing n t S.tree P (sym bit_is ∙ e) }
+
+    pub search_opening : b ≡ true → 2 * n ≤ k - 1 + 2 * (o + 1) → Searching n t now (k - 1) (o + 1)
+    search_opening e h =
+        let Q = pass_opening n t S.tree P (sym bit_is ∙ e) h in
+        record { kept = S.kept; long = S.long; few = omega (arith, Q.count); tree = S.tree; passed = Q }
+
+    pub search_found : b ≡ true → k - 1 + 2 * (o + 1) < 2 * n → {after : List ℕ} → after ≡ changed_tree now (k - 1) (k - 1 + 1) (k - 1 + 1 + (o + 1)) → Stepped n t after next
+    search_found e h w =
+        record {
+          answers = sym (ap (λ b. cond b last next) (turned_next n t S.tree P (sym bit_is ∙ e) h));
+          leaves = turned_written n t S.tree P (sym bit_is ∙ e) h w S.kept refl refl refl;
+        }
+
+  pub search_none : k ≤ 0 → Stepped n t now last
+  search_none h =
+      let z : k ≡ 0 = omega arith in
+      let P = rw z at S.passed in
+      record { answers = sym (ap (λ b. cond b last next) (last_none n t S.tree P)); leaves = S.kept ∙ last_kept n t S.tree P }

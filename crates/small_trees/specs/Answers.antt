@@ -1,11 +1,12 @@
 -- Document 02, T-09: what the two operations refuse and answer, and what they leave in the buffer.
-use Rattle.std.specs.Prelude.{◌≡◌, Bool, cond, ◌||◌, List, [], ◌∷◌, ℕ, eqb, ltb, length}
+use Rattle.std.specs.Prelude.{◌≡◌, Bool, cond, ◌||◌, List, [], ◌∷◌, ℕ, eqb, ltb, length, Result, Ok, Err}
 use Rattle.refusal.specs.Numbers.{number_of, first_of, number_if, unless_refused}
 use Rattle.refusal.specs.Conditions.{tree_length_off, flaw_number}
+use Rattle.refusal.specs.declared.Refusal.{Refusal}
 use Rattle.refusal.specs.declared.Refusal.TheVariants.{TreeLength, SizeOutside}
 use Rattle.all_trees.specs.Trees.{first_tree, next_tree, is_last}
 use Rattle.small_trees.specs.declared.Step.{Step}
-use Rattle.small_trees.specs.declared.Step.TheVariants.{Next, Last, Refused}
+use Rattle.small_trees.specs.declared.Step.TheVariants.{Next, Last}
 
 -- "14 for a size outside 1 to 12"
 abbrev pub size_outside : ℕ → Bool
@@ -44,10 +45,10 @@ pub data Going : Type 0 where
 unfoldable pub next_answer : ℕ → List ℕ → Going
 next_answer n t = unless_refused (next_refusal n t) (cond (is_last n t) last next) (refused (next_refusal n t))
 
-abbrev pub going_of : Step → Going
-going_of Next = next
-going_of Last = last
-going_of (Refused refusal) = refused (number_of refusal)
+abbrev pub going_of : Result Step Refusal → Going
+going_of (Ok Next) = next
+going_of (Ok Last) = last
+going_of (Err refusal) = refused (number_of refusal)
 
 -- going on, which answers so, for all inputs
 pub record NextGiven (n : ℕ) (before after : List ℕ) (going : Going) : Type 0 where

@@ -1,7 +1,7 @@
 // The trees of a small size, one after the other in the same buffer.
 #![tactic(auto)]
 
-ghost use Rattle.std.specs.Prelude.{◌≡◌, ◌-◌, ◌*◌, ◌%◌, ◌^◌, ◌≤◌, ◌<◌, min, length};
+ghost use Rattle.std.specs.Prelude.{◌≡◌, ◌-◌, ◌*◌, ◌%◌, ◌^◌, ◌≤◌, ◌<◌, min, length, Ok};
 ghost use Rattle.suffix.specs.Tree.{byte_of};
 ghost use Rattle.refusal.specs.Numbers.{verdict_number};
 ghost use Rattle.refusal.specs.Conditions.{byte_bit, tree_refusal};
@@ -9,21 +9,20 @@ ghost use Rattle.small_trees.specs.Answers.{size_outside, going_of, FirstGiven, 
 ghost use Rattle.small_trees.specs.Steps.{changed_bit, changed_tree, Stepped};
 
 use excess::is_open;
-use refusal::{Refusal, Verdict};
+use refusal::Refusal;
 use suffix::tree_length;
 
-// What came of going on from a tree: the next one is in the buffer, the tree is the last, or it is refused.
-#[derive(Clone, Copy)]
+// What came of going on from a tree: the next one is in the buffer, or the tree is the last.
+#[derive(Clone, Copy, PartialEq, Eq)]
 pub enum Step {
     Next,
     Last,
-    Refused(Refusal),
 }
 
 fn is_outside(size: usize) -> bool
     ensures { result ≡ size_outside size }
 {
-    size == 0 || size > 12
+    !(1..=12).contains(&size)
 }
 
 // The weight of the first bit of byte j that is not before bit q, 256 where all are.
@@ -54,37 +53,33 @@ fn change(tree: &mut [u8], k: usize, from: usize, to: usize)
     requires { (length tree.old ≤ 3) × (k ≤ from) × (from ≤ to) }
     ensures { tree.new ≡ changed_tree tree.old k from to }
 {
-    let mut j = k / 8;
-    while j < tree.len() {
+    for j in k / 8..tree.len() {
         tree[j] = changed_byte(tree[j], j, k, from, to);
-        j += 1;
     }
 }
 
 // Writes the first tree of a size: refusals 14, 3.
-pub fn first(size: usize, tree: &mut [u8]) -> Verdict
+pub fn first(size: usize, tree: &mut [u8]) -> Result<(), Refusal>
     ensures { FirstGiven size tree.old tree.new (verdict_number result) }
 {
     if is_outside(size) {
-        return Verdict::Refused(Refusal::SizeOutside);
+        return Err(Refusal::SizeOutside);
     }
     if tree.len() != tree_length(size) {
-        return Verdict::Refused(Refusal::TreeLength);
+        return Err(Refusal::TreeLength);
     }
     change(tree, 0, 0, size);
-    Verdict::Accepted
+    Ok(())
 }
 
 // Goes on from a tree that is not refused: the last opening before which something is open becomes a closing, and after it come the openings
 // that are left and then closings. Something is open before bit k where of the 2 size - k brackets from there on fewer than half are openings.
 fn go_on(size: usize, tree: &mut [u8]) -> Step
     requires { (size ≤ 12) × (tree_refusal size tree.old ≡ 0) }
-    ensures { Stepped size tree.old tree.new (going_of result) }
+    ensures { Stepped size tree.old tree.new (going_of (Ok result)) }
 {
-    let mut k = 2 * size;
     let mut openings = 0;
-    while k > 0 {
-        k -= 1;
+    for k in (0..2 * size).rev() {
         if is_open(tree, k) {
             openings += 1;
             if k + 2 * openings < 2 * size {
@@ -97,15 +92,12 @@ fn go_on(size: usize, tree: &mut [u8]) -> Step
 }
 
 // Writes the tree after a tree, or tells that it is the last: refusals 14, 3, 6, 7, 8.
-pub fn next(size: usize, tree: &mut [u8]) -> Step
+pub fn next(size: usize, tree: &mut [u8]) -> Result<Step, Refusal>
     ensures { NextGiven size tree.old tree.new (going_of result) }
 {
     if is_outside(size) {
-        return Step::Refused(Refusal::SizeOutside);
+        return Err(Refusal::SizeOutside);
     }
-    let verdict = brackets::verdict_on(size, tree);
-    match verdict {
-        Verdict::Refused(refusal) => Step::Refused(refusal),
-        Verdict::Accepted => go_on(size, tree),
-    }
+    brackets::verdict_on(size, tree)?;
+    Ok(go_on(size, tree))
 }

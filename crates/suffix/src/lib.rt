@@ -8,5 +8,5 @@ ghost use Rattle.suffix.specs.Tree.{tree_length};
 pub fn tree_length(n: usize) -> usize
     ensures { result ≡ tree_length n }
 {
-    n / 4 + (n % 4 + 3) / 4
+    n.div_ceil(4)
 }

@@ -1,10 +1,10 @@
 -- A whole build is not refused, and what it answers and leaves makes the program's text.
 use mathlib.Core.Path.{◌≡◌, refl, sym, ap, ◌∙◌}
 use mathlib.Core.Bool.{false}
-use mathlib.Core.List.{List, [], ◌∷◌}
-use Prim.Native.Nat.{ℕ, zero, suc, ◌≤◌, ◌<◌}
+use mathlib.Core.List.{List}
+use Prim.Native.Nat.{ℕ, ◌≤◌, ◌<◌}
 use native.Mathlib.Omega.{arith}
-use lib.ListN.{length, get_or, take, length-append}
+use lib.ListN.{length, get_or, length-append}
 use borrow.Author.Tests.{lt-ltb, le-ltb, eq-eqb}
 use Rattle.suffix.specs.Search.{tabulate}
 use Rattle.suffix.specs.Nearest.{previous, next}
@@ -18,6 +18,7 @@ use Rattle.refusal.specs.Numbers.{lowest, lowest_from}
 use Rattle.refusal.specs.Conditions.{build_refusal}
 use Rattle.reuse.specs.Steps.{comparisons}
 use Rattle.reuse.proofs.Laws.{steps_are_exact}
+use Rattle.suffix.specs.Rows.{Tables}
 use Rattle.outcome.specs.Built.{Lent, lent_after, Figures, figures_at, refusal_of, answer, BuiltExactly}
 use Rattle.outcome.proofs.Answers.{left_built}
 use Rattle.tables_text.specs.Text.{head_text, lines, tables_text, too_long_text, program_text, Rendered}
@@ -26,16 +27,16 @@ use Rattle.tables_text.specs.Buffers.{Room, WholeBuild, count_of, most_compared}
 use Rattle.writing.proofs.Writes.{put_fits, put_then}
 use Rattle.tables_text.proofs.Sizes.{lines_most, head_most}
 
-taken : {n p q pm qm t : ℕ} → Room n p q pm qm t → build_refusal n n p q pm qm t ≡ 0
+taken : {n bytes : ℕ} {t : Tables} → Room n t bytes → build_refusal n n (length t.previous) (length t.next) (length t.previous_match) (length t.next_match) bytes ≡ 0
 unfolding build_refusal lowest lowest_from
-taken {n} {p} {q} {pm} {qm} {t} r =
+taken {n} {bytes} {t} r =
     rw (
       le-ltb 1000000 n (omega (arith, r.few)),
-      eq-eqb p n r.previous,
-      eq-eqb q n r.next,
-      eq-eqb pm n r.previous_match,
-      eq-eqb qm n r.next_match,
-      eq-eqb t (tree_length n) r.tree,
+      eq-eqb (length t.previous) n r.lengths.previous,
+      eq-eqb (length t.next) n r.lengths.next,
+      eq-eqb (length t.previous_match) n r.lengths.previous_match,
+      eq-eqb (length t.next_match) n r.lengths.next_match,
+      eq-eqb bytes (tree_length n) r.tree,
       le-ltb n n (omega arith),
     )
 
@@ -65,7 +66,7 @@ module _ (y : List ℕ) (before after : Lent) (f : Figures) (accepted : refusal_
   unfolding lent_after
   next_is = ap (λ (l : Lent). l.tables.next) left ∙ ap (λ t. t.next) (all_rows_give_all_entries y)
 
-  pub exactly : WholeBuild y after.tables.previous after.tables.next after.tree (count_of f)
+  pub exactly : WholeBuild y after.tables after.tree (count_of f)
   unfolding lent_after
   exactly =
       record {
@@ -82,7 +83,7 @@ module _ (y : List ℕ) (before after : Lent) (f : Figures) (accepted : refusal_
 
 -- where the memory has room
 module _ (letters : List ℕ) {before after : Lent} {f : Figures}
-    (r : Room (length letters) (length before.tables.previous) (length before.tables.next) (length before.tables.previous_match) (length before.tables.next_match) (length before.tree))
+    (r : Room (length letters) before.tables (length before.tree))
     (e : BuiltExactly (ranks letters) (length letters) before after f) where
   abbrev y : List ℕ
   y = ranks letters
@@ -98,7 +99,7 @@ module _ (letters : List ℕ) {before after : Lent} {f : Figures}
   pub few_compared : count_of f ≤ most_compared
   few_compared = few y before after f not_refused all_rows (omega (arith, ranks_length letters, r.few))
 
-  pub whole_build : {c : ℕ} → c ≡ count_of f → WholeBuild y after.tables.previous after.tables.next after.tree c
+  pub whole_build : {c : ℕ} → c ≡ count_of f → WholeBuild y after.tables after.tree c
   whole_build z = rw z (exactly y before after f not_refused all_rows)
 
 tree_small : (y : List ℕ) → length y ≤ 2048 → length (tree_bytes y (length y)) ≤ 512
@@ -113,8 +114,8 @@ tables_most letters h =
     simp length-append (omega (arith, head_most (length y) (comparisons y (length y)) (tree_bytes y (length y)) (tree_small y few), lines_most y (length y)))
 
 pub tables_put :
-    {p q t u v w : List ℕ} {c x z : ℕ} (letters : List ℕ)
-    → WholeBuild (ranks letters) p q t c
+    {tables : Tables} {t u v w : List ℕ} {c x z : ℕ} (letters : List ℕ)
+    → WholeBuild (ranks letters) tables t c
     → Put u v (head_text (length letters) c t) 0 x
     → Put v w (lines (ranks letters) (length letters)) x z
     → Put u w (tables_text (ranks letters)) 0 z
@@ -138,11 +139,3 @@ rendered_long y h room p = rendered (text_long y h) (omega arith) p
 pub rendered_tables :
     (letters : List ℕ) → length letters ≤ 2048 → {a b : List ℕ} {r : ℕ} → 180000 ≤ length a → Put a b (tables_text (ranks letters)) 0 r → Rendered letters a b r
 rendered_tables letters h room p = rendered (text_tables letters h) (omega (arith, tables_most letters h)) p
-
-take_fits : (r : ℕ) (l : List ℕ) → length (take r l) ≡ r → r ≤ length l
-take_fits zero l e = omega arith
-take_fits (suc r) [] e = absurd (omega arith)
-take_fits (suc r) (x ∷ l) e = let h : r ≤ length l = take_fits r l (omega arith) in omega arith
-
-pub rendered_fits : {y before out : List ℕ} {r : ℕ} → Rendered y before out r → r ≤ length out
-rendered_fits {y} {before} {out} {r} w = take_fits r out (omega (arith, ap length w.text, w.size))

@@ -3,13 +3,16 @@
 
 ghost use Rattle.std.specs.Prelude.{◌≡◌, ◌≤◌, length};
 ghost use Rattle.ranks.specs.Ranks.{ranks};
+ghost use Rattle.entries.specs.Lent.{tables_in, SameLent};
 ghost use Rattle.outcome.specs.Built.{figures_of};
 ghost use Rattle.tables_text.specs.Text.{tree_text, field, or_dash, figure, lines, line_text, head_text, tables_text, Rendered};
 ghost use Rattle.writing.specs.Writing.{Put};
 ghost use Rattle.tables_text.specs.Buffers.{Room, Nearests, WholeBuild, count_of, most_compared};
 
+use entries::Tables;
 use outcome::Built;
 use reading::read_full;
+use refusal::Refusal;
 use std::io::{self, Write};
 use suffix::tree_length;
 use writing::{put, put_byte, put_decimal, put_hexes};
@@ -39,13 +42,13 @@ fn put_line(out: &mut [u8], at: usize, n: usize, i: usize, p: usize, q: usize) -
     let a = put_field(out, at, i, b' ');
     let b = put_previous(out, a, n, p);
     let c = put_field(out, b, q, b' ');
-    put_field(out, c, q - i, 10)
+    put_field(out, c, q - i, b'\n')
 }
 
 fn put_tree(out: &mut [u8], at: usize, tree: &[u8]) -> usize
     ensures { Put out.old out.new (tree_text tree.now) at result }
 {
-    if tree.len() == 0 {
+    if tree.is_empty() {
         return put_byte(out, at, b'-');
     }
     put_hexes(out, at, tree)
@@ -66,88 +69,50 @@ fn put_head(out: &mut [u8], n: usize, count: usize, tree: &[u8]) -> usize
     let b = put_figure(out, a, b"comparisons ", count);
     let c = put(out, b, b"tree ");
     let d = put_tree(out, c, tree);
-    put_byte(out, d, 10)
+    put_byte(out, d, b'\n')
 }
 
 // The lines of all positions of the letters, from their tables.
-fn put_lines(out: &mut [u8], at: usize, letters: &[u8], previous: &[u32], next: &[u32]) -> usize
-    requires { Nearests (ranks letters.now) previous.now next.now }
+fn put_lines(out: &mut [u8], at: usize, letters: &[u8], tables: &Tables) -> usize
+    requires { Nearests (ranks letters.now) (tables_in tables.now) }
     ensures { Put out.old out.new (lines (ranks letters.now) (length letters.now)) at result }
 {
     let n = letters.len();
     let mut end = at;
-    for k in 0..n {
-        end = put_line(out, end, n, k, previous[k] as usize, next[k] as usize);
+    for (k, (&p, &q)) in tables.previous.iter().zip(tables.next.iter()).enumerate() {
+        end = put_line(out, end, n, k, p as usize, q as usize);
     }
     end
 }
 
 // Equal and unequal comparisons together.
-fn count(built: Built) -> usize
+fn count(built: Result<Built, Refusal>) -> usize
     requires { count_of (figures_of built) ≤ most_compared }
     ensures { result ≡ count_of (figures_of built) }
 {
     match built {
-        Built::Finished(report) => report.equal + report.unequal,
-        Built::Halted(report) => report.equal + report.unequal,
-        Built::Refused(_) => 0,
+        Ok(Built::Finished(report) | Built::Halted(report)) => report.equal + report.unequal,
+        Err(_) => 0,
     }
 }
 
 // Builds all rows of the letters, and answers the count.
-fn build_all(
-    letters: &[u8],
-    previous: &mut [u32],
-    next: &mut [u32],
-    previous_match: &mut [u32],
-    next_match: &mut [u32],
-    tree: &mut [u8],
-) -> usize
-    requires { Room (length letters.now) (length previous.old) (length next.old) (length previous_match.old) (length next_match.old) (length tree.old) }
-    ensures { WholeBuild (ranks letters.now) previous.new next.new tree.new result }
+fn build_all(letters: &[u8], tables: &mut Tables, tree: &mut [u8]) -> usize
+    requires { Room (length letters.now) (tables_in tables.old) (length tree.old) }
+    ensures lent { SameLent tables.old tables.new }
+    ensures built { WholeBuild (ranks letters.now) (tables_in tables.new) tree.new result }
 {
-    let no_symbols = [0u32; 0];
-    count(build::build(
-        letters,
-        &no_symbols,
-        false,
-        letters.len(),
-        previous,
-        next,
-        previous_match,
-        next_match,
-        tree,
-    ))
+    count(build::build(letters, letters.len(), tables, tree))
 }
 
 // The text of letters that are not too long, by a build in lent memory.
-fn put_tables(
-    out: &mut [u8],
-    letters: &[u8],
-    previous: &mut [u32],
-    next: &mut [u32],
-    previous_match: &mut [u32],
-    next_match: &mut [u32],
-    tree: &mut [u8],
-) -> usize
-    requires { Room (length letters.now) (length previous.old) (length next.old) (length previous_match.old) (length next_match.old) (length tree.old) }
+fn put_tables(out: &mut [u8], letters: &[u8], tables: &mut Tables, tree: &mut [u8]) -> usize
+    requires { Room (length letters.now) (tables_in tables.old) (length tree.old) }
     ensures { Put out.old out.new (tables_text (ranks letters.now)) 0 result }
 {
-    let comparisons = build_all(letters, previous, next, previous_match, next_match, tree);
+    let comparisons = build_all(letters, tables, tree);
     let at = put_head(out, letters.len(), comparisons, tree);
-    put_lines(out, at, letters, previous, next)
-}
-
-fn table() -> [u32; 2048]
-    ensures { 2048 ≡ length result }
-{
-    [0; 2048]
-}
-
-fn tree_bytes() -> [u8; 512]
-    ensures { 512 ≡ length result }
-{
-    [0; 512]
+    put_lines(out, at, letters, tables)
 }
 
 fn put_tables_of(out: &mut [u8], letters: &[u8]) -> usize
@@ -156,20 +121,18 @@ fn put_tables_of(out: &mut [u8], letters: &[u8]) -> usize
 {
     let n = letters.len();
     let t = tree_length(n);
-    let mut previous = table();
-    let mut next = table();
-    let mut previous_match = table();
-    let mut next_match = table();
-    let mut tree = tree_bytes();
-    put_tables(
-        out,
-        letters,
-        &mut previous[..n],
-        &mut next[..n],
-        &mut previous_match[..n],
-        &mut next_match[..n],
-        &mut tree[..t],
-    )
+    let mut previous = [0; 2048];
+    let mut next = [0; 2048];
+    let mut previous_match = [0; 2048];
+    let mut next_match = [0; 2048];
+    let mut tree = [0; 512];
+    let mut tables = Tables {
+        previous: &mut previous[..n],
+        next: &mut next[..n],
+        previous_match: &mut previous_match[..n],
+        next_match: &mut next_match[..n],
+    };
+    put_tables(out, letters, &mut tables, &mut tree[..t])
 }
 
 // Puts the whole text for these letters at the start of out, and answers its length.
@@ -182,30 +145,17 @@ pub fn render(letters: &[u8], out: &mut [u8; 180000]) -> usize
     put_tables_of(out, letters)
 }
 
-// Room for the text of 2,048 positions.
-fn text_buffer() -> [u8; 180000]
-    ensures { 180000 ≡ length result }
-{
-    [0; 180000]
-}
-
 // Writes to standard output what render makes of the letters. What a call on a file descriptor writes is beyond a contract.
-fn print(rt: &impl Print, letters: &[u8]) -> bool {
-    let mut text = text_buffer();
+fn print(rt: &impl Print, letters: &[u8]) -> io::Result<()> {
+    // Room for the text of 2,048 positions.
+    let mut text = [0; 180000];
     let n = render(letters, &mut text);
-    io::writer(rt).write_all(&text[..n]).is_ok()
+    io::writer(rt).write_all(&text[..n])
 }
 
-// Room for 2,048 letters, and for one more that tells that there are too many.
-fn letter_buffer() -> [u8; 2049]
-    ensures { 2049 ≡ length result }
-{
-    [0; 2049]
-}
-
-// The program: reads standard input up to its end, or up to 2,049 bytes, and prints the text for these letters.
+// The program: reads standard input up to its end, or up to 2,049 bytes, one more than there may be letters, and prints the text for these.
 pub fn run(rt: &(impl Input + Print)) {
-    let mut letters = letter_buffer();
+    let mut letters = [0; 2049];
     let n = read_full(&mut rt.reader(), &mut letters);
-    print(rt, &letters[..n]);
+    let _ = print(rt, &letters[..n]);
 }

@@ -1,7 +1,7 @@
 -- The size that the input is.
 use mathlib.Core.Path.{◌≡◌, refl}
 use mathlib.Core.Logic.{◌≢◌}
-use mathlib.Core.Bool.{Bool, true, false, ◌&&◌}
+use mathlib.Core.Bool.{true, false, ◌&&◌}
 use mathlib.Core.List.{List, [], ◌∷◌}
 use Prim.Native.Nat.{ℕ, ◌+◌, ◌-◌, ◌*◌, ◌≤◌}
 use native.Mathlib.Omega.{arith}
@@ -10,9 +10,6 @@ use lib.ListN.{length, get_or}
 use borrow.Author.Tests.{leb-true, eq-eqb, ne_eqb}
 use Rattle.suffix.proofs.Cases.{Test, holds, fails, test, both_true}
 use Rattle.tree_size.specs.Size.{is_digit, one_digit, two_digits, size_in}
-
-pub digit_low : (a : ℕ) → is_digit a ≡ true → 48 ≤ a
-digit_low a e = leb-true 48 a (both_true (leb 48 a) (leb a 57) e).0
 
 pub one_is : (a : ℕ) → is_digit a ≡ true → one_digit a ≡ a - 48
 one_is a e = rw e
@@ -32,16 +29,6 @@ two_are a b e f = rw (e, f)
 
 two_none : (a b : ℕ) → is_digit a && is_digit b ≡ false → two_digits a b ≡ 0
 two_none a b e = rw e
-
-neither : (a b : Bool) → b ≡ false → a && b ≡ false
-neither true b e = e
-neither false b e = refl
-
-pub two_none_first : (a b : ℕ) → is_digit a ≡ false → two_digits a b ≡ 0
-two_none_first a b e = rw e
-
-pub two_none_second : (a b : ℕ) → is_digit b ≡ false → two_digits a b ≡ 0
-two_none_second a b e = two_none a b (neither (is_digit a) (is_digit b) e)
 
 two_most : (a b : ℕ) → two_digits a b ≤ 99
 two_most a b = go (test (is_digit a && is_digit b))
@@ -87,6 +74,8 @@ size_none (a ∷ []) e f h = absurd (e (omega arith))
 size_none (a ∷ b ∷ []) e f h = absurd (f (omega arith))
 size_none (a ∷ b ∷ c ∷ []) e f h = rw (ne_eqb c 10 (h (omega arith)))
 size_none (a ∷ b ∷ c ∷ d ∷ l) e f h = refl
+
+pub ruleset by_length = (size_1, size_2, size_2_end, size_3_end, size_none)
 
 pub size_most : (l : List ℕ) → size_in l ≤ 99
 unfolding size_in

@@ -2,19 +2,13 @@
 #![tactic(auto)]
 
 ghost use Rattle.std.specs.Prelude.{◌≡◌};
-ghost use Rattle.tree_size.specs.Size.{is_digit, one_digit, two_digits, size_in};
-
-fn is_digit(b: u8) -> bool
-    ensures { result ≡ is_digit b }
-{
-    b >= b'0' && b <= b'9'
-}
+ghost use Rattle.tree_size.specs.Size.{one_digit, two_digits, size_in};
 
 fn one_digit(a: u8) -> usize
     ensures { result ≡ one_digit a }
 {
-    if is_digit(a) {
-        return (a - b'0') as usize;
+    if a.is_ascii_digit() {
+        return usize::from(a - b'0');
     }
     0
 }
@@ -22,28 +16,20 @@ fn one_digit(a: u8) -> usize
 fn two_digits(a: u8, b: u8) -> usize
     ensures { result ≡ two_digits a b }
 {
-    if is_digit(a) && is_digit(b) {
+    if a.is_ascii_digit() && b.is_ascii_digit() {
         return 10 * one_digit(a) + one_digit(b);
     }
     0
 }
 
-// The size that the input is, 0 for other input.
+// The size that the input is, 0 for other input. No Option: 0 is refused as any size outside 1 to 12 is, so a match would give one answer twice.
+#[tactic(auto, using(crate::proofs::Input::by_length))]
 pub fn size_in(input: &[u8]) -> usize
     ensures { result ≡ size_in input.now }
 {
-    let n = input.len();
-    if n == 1 {
-        return one_digit(input[0]);
+    match input {
+        [a] | [a, b'\n'] => one_digit(*a),
+        [a, b] | [a, b, b'\n'] => two_digits(*a, *b),
+        _ => 0,
     }
-    if n == 2 {
-        if input[1] == 10 {
-            return one_digit(input[0]);
-        }
-        return two_digits(input[0], input[1]);
-    }
-    if n == 3 && input[2] == 10 {
-        return two_digits(input[0], input[1]);
-    }
-    0
 }

@@ -3,15 +3,17 @@ use mathlib.Core.Path.{◌≡◌, sym, ◌∙◌}
 use mathlib.Core.Logic.{◌≢◌}
 use mathlib.Core.List.{List}
 use Prim.Native.Nat.{ℕ, ◌≤◌, ◌<◌}
+use native.Mathlib.Omega.{arith}
 use lib.ListN.{length}
 use borrow.Author.Tests.{lt-ltb, le-ltb, eq-eqb, ne_eqb}
 use Rattle.suffix.specs.Tree.{tree_length}
 use Rattle.suffix.proofs.Cases.{Same, same, other, same?}
-use Rattle.refusal.specs.Numbers.{first_of}
+use Rattle.refusal.specs.declared.Refusal.{Refusal}
+use Rattle.refusal.specs.Numbers.{number_of, first_of}
 use Rattle.refusal.specs.Conditions.{flaw_number, tree_refusal}
-use Rattle.refusal.proofs.Numbers.{first_only, unless_taken, unless_refused_lem}
+use Rattle.refusal.proofs.Numbers.{positive, first_only, unless_taken, unless_refused_lem}
 use Rattle.shape.proofs.Conditions.{tree_3, tree_flaw}
-use Rattle.tree_string.specs.TreeString.{tree_string, string_refusal, symbols_at_exit}
+use Rattle.tree_string.specs.TreeString.{tree_string, string_refusal, symbols_at_exit, StringWritten}
 
 module _ (n : ℕ) (t : List ℕ) (m : ℕ) where
   pub string_1 : 1000000 < n → string_refusal n t m ≡ 1
@@ -39,3 +41,25 @@ module _ (n : ℕ) (t before : List ℕ) where
   pub buffer_written : string_refusal n t (length before) ≡ 0 → tree_string n t ≡ symbols_at_exit n t before
   unfolding symbols_at_exit
   buffer_written e = sym (unless_taken (string_refusal n t (length before)) (tree_string n t) before e)
+
+-- ---- what is answered and left, case by case
+
+module _ (n : ℕ) (t b : List ℕ) where
+  refused : (k : ℕ) → 0 < k → string_refusal n t (length b) ≡ k → StringWritten n t b b k
+  refused k h e = record { answers = sym e; leaves = buffer_kept n t b (λ z. omega arith) }
+
+  pub refused_1 : 1000000 < n → StringWritten n t b b 1
+  refused_1 a = refused 1 (omega arith) (string_1 n t (length b) a)
+
+  module _ (few : n ≤ 1000000) where
+    pub refused_2 : length b ≢ n → StringWritten n t b b 2
+    refused_2 a = refused 2 (omega arith) (string_2 n t (length b) few a)
+
+    module _ (long : length b ≡ n) where
+      pub refused_tree : (k : Refusal) → number_of k ≡ tree_refusal n t → StringWritten n t b b (number_of k)
+      refused_tree k e = refused (number_of k) (positive k) (string_tree n t (length b) few long ∙ sym e)
+
+      pub written : 0 ≡ tree_refusal n t → {after : List ℕ} → after ≡ tree_string n t → StringWritten n t b after 0
+      written e w =
+          let z = string_tree n t (length b) few long ∙ sym e in
+          record { answers = sym z; leaves = w ∙ buffer_written n t b z }

@@ -4,17 +4,19 @@ use mathlib.Core.Path.{◌≡◌, refl, sym, ap, ◌∙◌}
 use mathlib.Core.Logic.{◌≢◌}
 use mathlib.Core.Bool.{Bool, true, false, cond}
 use mathlib.Core.List.{List, [], ◌∷◌, ◌++◌, append_assoc, append-nil}
-use Prim.Native.Nat.{ℕ, zero, suc, ◌+◌, ◌-◌, ◌*◌, ◌≤◌, ◌<◌}
+use Prim.Native.Nat.{ℕ, zero, suc, ◌+◌, ◌-◌, ◌*◌, ◌/◌, ◌%◌, ◌≤◌, ◌<◌}
 use native.Mathlib.Omega.{arith}
 use lib.ListN.{length, get_or, set, take, drop, length-append, length-set}
 use lib.Seq.{drop-cons, take-suc-set, take-set-le, drop-set-lt, get_or-set_same, get_or-take, get_or_at, take_at, take-take, drop-length}
 use Rattle.suffix.specs.Tree.{Forest, none, tree}
 use Rattle.suffix.proofs.Search.{count_most}
-use Rattle.refusal.specs.Conditions.{bit_of, tree_refusal}
+use Rattle.std.proofs.lemmas.List.{length-take-le}
+use Rattle.refusal.specs.Conditions.{byte_bit, bit_of, tree_refusal}
+use Rattle.excess.proofs.Bits.{read_bit}
 use Rattle.shape.specs.Shape.{size, forests_from, first, shape_of}
 use Rattle.shape.proofs.Heights.{opened, opened_none, opens, shuts, opened_grows}
 use Rattle.shape.proofs.Reading.{Balanced}
-use Rattle.shape.proofs.Laws.{Whole, whole}
+use Rattle.shape.proofs.Laws.{whole}
 use Rattle.tree_string.specs.TreeString.{tree_string}
 use Rattle.tree_string.specs.Steps.{Numbered, bracket_numbered, Numberable}
 use Rattle.tree_string.proofs.Numbers.{numbers}
@@ -193,18 +195,9 @@ module _ (g : ℕ → Bool) (n k : ℕ) (s : Numbered) (B : Balanced g (2 * n)) 
   none_waits A e = omega (arith, A.depth, A.left, opens g k e, B.above k (omega (arith, A.within)))
 
 -- of a tree that is not refused the brackets behind bit k are numbered, not all closings are, and bit k is so many openings, 1 or 0
-pub record Next (n : ℕ) (t : List ℕ) (s : Numbered) (k opening : ℕ) : Type 0 where
-  pub accepted : tree_refusal n t ≡ 0
-  pub writing : Writing (bit_of t) n (suc k) s
-  pub more : s.number ≢ n
-  pub is_next : opening ≡ cond (bit_of t k) 1 0
-
-module _ {n : ℕ} {t : List ℕ} {s : Numbered} {k opening : ℕ} (N : Next n t s k opening) where
-  W : Whole n t
-  W = whole n t N.accepted
-
+module _ (n : ℕ) (t : List ℕ) {s : Numbered} {k opening : ℕ} (accepted : tree_refusal n t ≡ 0) (R : Writing (bit_of t) n (suc k) s) (more : s.number ≢ n) (is_next : opening ≡ cond (bit_of t k) 1 0) where
   even : Balanced (bit_of t) (2 * n)
-  even = W.sound.even
+  even = (whole n t accepted).sound.even
 
   numberable : {opening : ℕ} → opening ≤ 1 → opening ≤ s.waiting → {f : Forest} {fs : List Forest} → At (bit_of t) n (suc k) s f fs → Numberable opening s
   numberable h w A =
@@ -212,9 +205,9 @@ module _ {n : ℕ} {t : List ℕ} {s : Numbered} {k opening : ℕ} (N : Next n t
       record {
         bracket = h;
         waits = w;
-        free = free (bit_of t) n k s even A N.more;
+        free = free (bit_of t) n k s even A more;
         within = omega (arith, i, A.long);
-        fits = omega (arith, A.counted, i, A.depth, W.small);
+        fits = omega (arith, A.counted, i, A.depth, (whole n t accepted).small);
       }
 
   step : (b : Bool) → b ≡ bit_of t k → {f : Forest} (fs : List Forest) → At (bit_of t) n (suc k) s f fs
@@ -224,7 +217,7 @@ module _ {n : ℕ} {t : List ℕ} {s : Numbered} {k opening : ℕ} (N : Next n t
       let i = s.positions in
       let x = get_or s.symbols d 0 in
       let l : i ≤ length s.symbols = omega (arith, few (bit_of t) n k s even A, A.long) in
-      let h = free (bit_of t) n k s even A N.more in
+      let h = free (bit_of t) n k s even A more in
       let C =
       closing_numbered (bit_of t) n k s even A (sym e) _ (stored_length s.symbols d i x s.number l) (stored_waits s.symbols d i x s.number l h)
       (stored_end s.symbols d i x s.number l h) in
@@ -237,7 +230,7 @@ module _ {n : ℕ} {t : List ℕ} {s : Numbered} {k opening : ℕ} (N : Next n t
       let i = s.positions in
       let x = get_or s.symbols d 0 in
       let l : i ≤ length s.symbols = omega (arith, few (bit_of t) n k s even A, A.long) in
-      let h : suc d < i = omega (arith, free (bit_of t) n k s even A N.more, A.waits) in
+      let h : suc d < i = omega (arith, free (bit_of t) n k s even A more, A.waits) in
       let O =
       opening_numbered (bit_of t) n k s even A (sym e) _ (stored_length s.symbols d i x s.number l) (stored_still s.symbols d i x s.number l h)
       (stored_number s.symbols d i x s.number l h) in
@@ -246,10 +239,59 @@ module _ {n : ℕ} {t : List ℕ} {s : Numbered} {k opening : ℕ} (N : Next n t
       (numberable (omega arith) (omega (arith, A.waits)) A, rw (z, w) (record { behind = tree f r; others = fs; at = O }))
 
   pub next_numberable : Numberable opening s
-  next_numberable = rw N.is_next (step (bit_of t k) refl N.writing.others N.writing.at).0
+  next_numberable = rw is_next (step (bit_of t k) refl R.others R.at).0
 
   pub next_written : {u : Numbered} → u ≡ bracket_numbered opening s → Writing (bit_of t) n k u
-  next_written q = rw (q, N.is_next) (step (bit_of t k) refl N.writing.others N.writing.at).1
+  next_written q = rw (q, is_next) (step (bit_of t k) refl R.others R.at).1
+
+-- the brackets of byte j from bit m on are numbered, and those behind it
+module _
+    (n : ℕ) (t : List ℕ) (j : ℕ) {s : Numbered} {m byte opening : ℕ} (accepted : tree_refusal n t ≡ 0) (R : Writing (bit_of t) n (8 * j + m) s) (some : 0 < m) (most : m ≤ 8) (more : s.number ≢ n)
+    (byte_is : byte ≡ get_or t j 0) (is_next : opening ≡ cond (byte_bit byte ((m - 1) % 8)) 1 0) where
+  earlier : Writing (bit_of t) n (suc (8 * j + (m - 1))) s
+  earlier = writing_at R (omega arith)
+
+  bit_is : opening ≡ cond (bit_of t (8 * j + (m - 1))) 1 0
+  bit_is = is_next ∙ ap (λ b. cond b 1 0) (read_bit t j (omega arith) (ap (λ b. byte_bit b ((m - 1) % 8)) byte_is))
+
+  pub byte_numberable : Numberable opening s
+  byte_numberable = next_numberable n t accepted earlier more bit_is
+
+  pub byte_written : {u : Numbered} → u ≡ bracket_numbered opening s → Writing (bit_of t) n (8 * j + (m - 1)) u
+  byte_written q = next_written n t accepted earlier more bit_is q
+
+-- the first bytes of t are left to go through, the last of them first
+pub record BytesLeft (n : ℕ) (t rest : List ℕ) (s : Numbered) : Type 0 where
+  pub are : rest ≡ take (length rest) t
+  pub writing : Writing (bit_of t) n (8 * length rest) s
+
+pub bytes_start : {n : ℕ} {t rest : List ℕ} {s : Numbered} → tree_refusal n t ≡ 0 → rest ≡ take (n / 4) t → Writing (bit_of t) n (8 * (n / 4)) s → BytesLeft n t rest s
+bytes_start {n} {t} e a R =
+    let z : length (take (n / 4) t) ≡ n / 4 = length-take-le (n / 4) t (omega (arith, (whole n t e).bytes)) in
+    rw a (record { are = rw z; writing = writing_at R (omega arith) })
+
+module _ {n : ℕ} {t rest : List ℕ} {s : Numbered} (byte : ℕ) (fewer : List ℕ) (L : BytesLeft n t rest s) (taken : rest ≡ fewer ++ byte ∷ []) where
+  one_more : length rest ≡ suc (length fewer)
+  one_more = ap length taken ∙ length-append fewer (byte ∷ []) ∙ omega arith
+
+  parts : fewer ++ byte ∷ [] ≡ take (suc (length fewer)) t
+  parts = sym taken ∙ L.are ∙ ap (λ k. take k t) one_more
+
+  pub byte_is_last : byte ≡ get_or t (length fewer) 0
+  byte_is_last =
+      sym (get_or_at fewer byte [] 0 (length fewer) refl)
+      ∙ ap (λ l. get_or l (length fewer) 0) parts
+      ∙ get_or-take (suc (length fewer)) t (length fewer) 0 (omega arith)
+
+  pub byte_start : Writing (bit_of t) n (8 * length fewer + 8) s
+  byte_start = writing_at L.writing (omega (arith, one_more))
+
+  pub byte_passed : {u : Numbered} {m : ℕ} → Writing (bit_of t) n (8 * length fewer + m) u → m ≤ 0 → BytesLeft n t fewer u
+  byte_passed R h =
+      record {
+        are = sym (take_at fewer (byte ∷ []) (length fewer) refl) ∙ ap (take (length fewer)) parts ∙ take-take (length fewer) (suc (length fewer)) t (omega arith);
+        writing = writing_at R (omega arith);
+      }
 
 -- ---- all closings are numbered: openings are left, whose numbers stand where they belong
 

@@ -7,13 +7,14 @@ ghost use Rattle.refusal.specs.Conditions.{byte_bit, tree_refusal};
 ghost use Rattle.tree_string.specs.TreeString.{tree_string, StringWritten};
 ghost use Rattle.tree_string.specs.Steps.{numbered_of, bracket_numbered, Numberable};
 
-use refusal::{Refusal, Verdict};
+use excess::bit;
+use refusal::Refusal;
 
 // 1 where the bit of a byte with weight 2 to the power (m mod 8) is an opening, 0 where it is a closing.
 fn opening_at(byte: u8, m: usize) -> usize
     ensures { result ≡ cond (byte_bit byte (m % 8)) 1 0 }
 {
-    ((byte >> ((m % 8) as u8)) % 2) as usize
+    usize::from(bit(byte, m))
 }
 
 // How many positions have no number yet, how many numbers wait for their opening, and the number of the next closing.
@@ -53,45 +54,33 @@ fn fill(n: usize, tree: &[u8], symbols: &mut [u32])
         waiting: 0,
         number: 0,
     };
-    let mut m = 2 * (n % 4);
-    while m > 0 {
+    for k in (0..2 * (n % 4)).rev() {
         if s.number == n {
             return;
         }
-        m -= 1;
-        s = number_bracket(opening_at(tree[n / 4], m), s, symbols);
+        s = number_bracket(opening_at(tree[n / 4], k), s, symbols);
     }
-    let mut j = n / 4;
-    while j > 0 {
-        j -= 1;
-        let byte = tree[j];
-        let mut k = 8;
-        while k > 0 {
+    for &byte in tree[..n / 4].iter().rev() {
+        for m in (0..8).rev() {
             if s.number == n {
                 return;
             }
-            k -= 1;
-            s = number_bracket(opening_at(byte, k), s, symbols);
+            s = number_bracket(opening_at(byte, m), s, symbols);
         }
     }
 }
 
 // Writes the string of a tree of n positions: refusals 1, 2, 3, 6, 7, 8.
-pub fn write(n: usize, tree: &[u8], symbols: &mut [u32]) -> Verdict
+pub fn write(n: usize, tree: &[u8], symbols: &mut [u32]) -> Result<(), Refusal>
     ensures { StringWritten n tree.now symbols.old symbols.new (verdict_number result) }
 {
     if n > 1000000 {
-        return Verdict::Refused(Refusal::TooLong);
+        return Err(Refusal::TooLong);
     }
     if symbols.len() != n {
-        return Verdict::Refused(Refusal::TableLength);
+        return Err(Refusal::TableLength);
     }
-    let found = brackets::verdict_on(n, tree);
-    match found {
-        Verdict::Refused(_) => found,
-        Verdict::Accepted => {
-            fill(n, tree, symbols);
-            Verdict::Accepted
-        }
-    }
+    brackets::verdict_on(n, tree)?;
+    fill(n, tree, symbols);
+    Ok(())
 }

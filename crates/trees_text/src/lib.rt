@@ -9,7 +9,7 @@ ghost use Rattle.trees_text.specs.Text.{symbols_text, line_of, line_text, size_t
 ghost use Rattle.trees_text.specs.Lines.{stops, LineMade, Begun};
 
 use reading::read_full;
-use refusal::Verdict;
+use refusal::Refusal;
 use small_trees::Step;
 use std::io::{self, Write};
 use suffix::tree_length;
@@ -28,9 +28,9 @@ fn put_symbols(out: &mut [u8], at: usize, symbols: &[u32]) -> usize
     ensures { Put out.old out.new (symbols_text symbols.now (length symbols.now)) at result }
 {
     let mut end = at;
-    for k in 0..symbols.len() {
+    for &symbol in symbols {
         let mid = put_byte(out, end, b' ');
-        end = put_decimal(out, mid, symbols[k] as usize);
+        end = put_decimal(out, mid, symbol as usize);
     }
     end
 }
@@ -40,7 +40,7 @@ fn put_line(out: &mut [u8], tree: &[u8], symbols: &[u32]) -> usize
 {
     let a = put_hexes(out, 0, tree);
     let b = put_symbols(out, a, symbols);
-    put_byte(out, b, 10)
+    put_byte(out, b, b'\n')
 }
 
 // Puts the line of a tree; its string is worked out in the lent symbols.
@@ -48,24 +48,15 @@ fn put_tree(out: &mut [u8], size: usize, tree: &[u8], symbols: &mut [u32]) -> us
     requires { (next_refusal size tree.now ≡ 0) × (length symbols.old ≡ size) }
     ensures { Put out.old out.new (line_text size tree.now) 0 result }
 {
-    tree_string::write(size, tree, symbols);
+    let _ = tree_string::write(size, tree, symbols);
     put_line(out, tree, symbols)
 }
 
-fn stops(step: Step) -> bool
+// Whether there is no next tree.
+fn stops(step: Result<Step, Refusal>) -> bool
     ensures { result ≡ stops (going_of step) }
 {
-    match step {
-        Step::Next => false,
-        Step::Last => true,
-        Step::Refused(_) => true,
-    }
-}
-
-fn symbol_room() -> [u32; 12]
-    ensures { 12 ≡ length result }
-{
-    [0; 12]
+    !matches!(step, Ok(Step::Next))
 }
 
 // Puts the line of a tree and goes on to the next tree.
@@ -73,7 +64,7 @@ fn make_line(size: usize, tree: &mut [u8], out: &mut [u8]) -> Line
     requires { next_refusal size tree.old ≡ 0 }
     ensures { LineMade size tree.old tree.new out.old out.new result }
 {
-    let mut symbols = symbol_room();
+    let mut symbols = [0; 12];
     let length = put_tree(out, size, tree, &mut symbols[..size]);
     let last = stops(small_trees::next(size, tree));
     Line { length, last }
@@ -83,33 +74,17 @@ fn make_line(size: usize, tree: &mut [u8], out: &mut [u8]) -> Line
 fn begin(size: usize, tree: &mut [u8], out: &mut [u8]) -> Line
     ensures { Begun size tree.old tree.new out.old out.new result }
 {
-    let first = small_trees::first(size, tree);
-    match first {
-        Verdict::Accepted => make_line(size, tree, out),
-        Verdict::Refused(_) => {
+    match small_trees::first(size, tree) {
+        Ok(()) => make_line(size, tree, out),
+        Err(_) => {
             let length = put(out, 0, b"no size\n");
             Line { length, last: true }
         }
     }
 }
 
-// Room for the tree of any size of two digits.
-fn tree_room() -> [u8; 25]
-    ensures { 25 ≡ length result }
-{
-    [0; 25]
-}
-
-// Room for a line: three bytes in hexadecimal, and twelve numbers of any length with their blanks.
-fn line_room() -> [u8; 300]
-    ensures { 300 ≡ length result }
-{
-    [0; 300]
-}
-
-// Whether the line was written.
-fn write_line(rt: &impl Print, line: &[u8]) -> bool {
-    io::writer(rt).write_all(line).is_ok()
+fn write_line(rt: &impl Print, line: &[u8]) -> io::Result<()> {
+    io::writer(rt).write_all(line)
 }
 
 // Hands one line after the other to standard output, and answers how many bytes these are. What a call on a file descriptor writes is beyond a
@@ -122,7 +97,7 @@ fn print_lines(rt: &impl Print, size: usize, tree: &mut [u8], text: &mut [u8]) -
     let mut bytes = 0;
     loop {
         let n = line.length;
-        write_line(rt, &text[..n]);
+        let _ = write_line(rt, &text[..n]);
         bytes += n;
         if line.last {
             return bytes;
@@ -136,8 +111,10 @@ fn print(rt: &impl Print, input: &[u8]) -> usize
 {
     let size = size_in(input);
     let bytes = tree_length(size);
-    let mut tree = tree_room();
-    let mut text = line_room();
+    // Room for the tree of any size of two digits.
+    let mut tree = [0; 25];
+    // Room for a line: three bytes in hexadecimal, and twelve numbers of any length with their blanks.
+    let mut text = [0; 300];
     print_lines(rt, size, &mut tree[..bytes], &mut text)
 }
 

@@ -3,7 +3,11 @@ use mathlib.Core.Path.{◌≡◌, sym, ap, ◌∙◌}
 use mathlib.Core.List.{List}
 use Prim.Native.Nat.{ℕ, zero, suc, ◌+◌, ◌-◌, ◌≤◌, ◌<◌}
 use native.Mathlib.Omega.{arith}
-use lib.ListN.{length, get_or}
+use lib.ListN.{length, get_or, length-map}
+use Rattle.std.specs.Prelude.{map}
+use lib.Dec.{eqb}
+use mathlib.Core.Bool.{true, false}
+use Rattle.suffix.proofs.Tests.{tests}
 use Rattle.suffix.specs.Lyndon.{longest_lyndon}
 use Rattle.suffix.proofs.Cases.{Tri, lt, eq, gt, tri}
 use Rattle.suffix.proofs.Sequence.{Less, less_trans}
@@ -20,10 +24,6 @@ module _ (f : ℕ → ℕ) where
     pub whole : period + k ≡ j
     pub same : (x : ℕ) → x < k → f x ≡ f (period + x)
     pub least : (t : ℕ) → 0 < t → t < period → Less f 0 t
-
-  pub repeats_one : Repeats 0 1
-  repeats_one =
-      record { period = 1; some = omega arith; whole = omega arith; same = λ x h. absurd (omega arith); least = λ t a b. absurd (omega arith) }
 
   module _ {k j : ℕ} (r : Repeats k j) where
     -- an equal letter: the repeat goes on
@@ -80,22 +80,29 @@ module _ (f : ℕ → ℕ) where
         }
 
 -- the letter at j of a string, or its end, against the letter at k
-module _ (y : List ℕ) {k j : ℕ} (r : Repeats (extended y) k j) where
-  at_k : j ≤ length y → extended y k ≡ suc (get_or y k 0)
-  at_k h = extended_in y k (omega arith)
+module _ {S : Type 0} (rank : S → ℕ) (string : List S) {k j : ℕ} (r : Repeats (extended (map rank string)) k j) where
+  abbrev y : List ℕ
+  y = map rank string
 
-  pub letter_equal : j < length y → get_or y k 0 ≡ get_or y j 0 → Repeats (extended y) (k + 1) (j + 1)
-  letter_equal h e = repeats_on (extended y) r (omega (arith, at_k (omega arith), extended_in y j h))
+  at_k : j ≤ length string → extended y k ≡ suc (get_or y k 0)
+  at_k h = extended_in y k (omega (arith, length-map string rank))
 
-  pub letter_greater : j < length y → get_or y k 0 < get_or y j 0 → Repeats (extended y) 0 (j + 1)
-  letter_greater h e = repeats_whole (extended y) r (omega (arith, at_k (omega arith), extended_in y j h))
+  at_j : j < length string → extended y j ≡ suc (get_or y j 0)
+  at_j h = extended_in y j (omega (arith, length-map string rank))
 
-  ends : j ≤ length y → extended y j < extended y k → j - k ≡ longest_lyndon y 0
+  pub letter_equal : j < length string → eqb (get_or y k 0) (get_or y j 0) ≡ true → Repeats (extended y) (k + 1) (j + 1)
+  letter_equal h e = repeats_on (extended y) r (omega (tests, at_k (omega arith), at_j h, e))
+
+  pub letter_greater : j < length string → eqb (get_or y k 0) (get_or y j 0) ≡ false → get_or y k 0 ≤ get_or y j 0 → Repeats (extended y) 0 (j + 1)
+  letter_greater h d e = repeats_whole (extended y) r (omega (tests, at_k (omega arith), at_j h, d))
+
+  ends : j ≤ length string → extended y j < extended y k → j - k ≡ longest_lyndon y 0
   ends h e =
-      omega (arith, next_is y 0 (omega arith) r.period (repeats_end (extended y) r e), longest_next y 0 (omega arith))
+      let n = length-map string rank in
+      omega (arith, next_is y 0 (omega (arith, n)) r.period (repeats_end (extended y) r e), longest_next y 0 (omega (arith, n)))
 
-  pub letter_smaller : j < length y → get_or y j 0 < get_or y k 0 → j - k ≡ longest_lyndon y 0
-  letter_smaller h e = ends (omega arith) (omega (arith, at_k (omega arith), extended_in y j h))
+  pub letter_smaller : j < length string → get_or y j 0 < get_or y k 0 → j - k ≡ longest_lyndon y 0
+  letter_smaller h e = ends (omega arith) (omega (arith, at_k (omega arith), at_j h))
 
-  pub string_ends : j ≡ length y → j - k ≡ longest_lyndon y 0
-  string_ends h = ends (omega arith) (omega (arith, at_k (omega arith), extended_out y j (omega arith)))
+  pub string_ends : j ≡ length string → length string - k ≡ longest_lyndon y 0
+  string_ends h = ap (λ n. n - k) (sym h) ∙ ends (omega arith) (omega (arith, at_k (omega arith), extended_out y j (omega (arith, length-map string rank))))

@@ -1,4 +1,4 @@
--- The longest-word question, refused and not; and the law that proves specs/Claims.antt.
+-- The longest-word question, refused and not; and the laws that prove specs/Claims.antt.
 use mathlib.Core.Path.{◌≡◌, refl, sym, ap, ◌∙◌}
 use mathlib.Core.Logic.{◌≢◌}
 use mathlib.Core.Bool.{Bool, true, false}
@@ -6,9 +6,13 @@ use mathlib.Core.List.{List, [], ◌∷◌}
 use Prim.Native.Nat.{ℕ, ◌+◌, ◌-◌, ◌*◌, ◌≤◌, ◌<◌}
 use native.Mathlib.Nat.{zero-add, zero-mul}
 use native.Mathlib.Omega.{arith}
-use lib.ListN.{length, take, drop, length-drop}
+use lib.ListN.{length, take, drop, length-drop, length-map}
+use lib.Seq.{length-take-le}
+use Rattle.std.proofs.Common.{map}
+use Rattle.std.specs.List.{between}
+use Rattle.std.proofs.lemmas.List.{drop-map, get_or-take, get_or-drop}
+use Rattle.std.proofs.lemmas.Slice.{between_to_end}
 use borrow.Author.Tests.{lt-ltb, le-ltb, le-leb, lt-leb, leb-false, eq-eqb, ne_eqb}
-use borrow.Author.Rules.{part_to_end}
 use denote.Ref.{Bor}
 use Rattle.suffix.specs.Lyndon.{part, longest_lyndon}
 use Rattle.suffix.proofs.Nearest.{next_le}
@@ -16,7 +20,7 @@ use Rattle.suffix.proofs.Lyndon.{part_length, longest_next}
 use Rattle.refusal.specs.Numbers.{lowest, lowest_from}
 use Rattle.refusal.specs.Conditions.{too_long, position_outside, word_refusal}
 use Rattle.word.specs.Word.{word_part, word_start, WordAnswered}
-use Rattle.word.specs.Claims.{WordIsLongest}
+use Rattle.word.specs.Claims.{WordIsLongest, WordAsItStands, OneByteOrFour}
 
 -- ---- the number
 
@@ -49,8 +53,8 @@ longest_from : (y : List ℕ) (i : ℕ) → longest_lyndon (drop i y) 0 ≡ long
 unfolding longest_lyndon part
 longest_from y i = let z : length (drop i y) - 0 ≡ length y - i = omega (arith, length-drop i y) in rw z
 
-module _ (letters y : List ℕ) (i : ℕ) where
-  pub part_taken : word_refusal (length letters) i ≡ 0 → word_part letters y i ≡ part letters i (longest_lyndon y i)
+module _ {S : Type 0} (letters : List S) (y : List ℕ) (i : ℕ) where
+  pub part_taken : word_refusal (length letters) i ≡ 0 → word_part letters y i ≡ take (longest_lyndon y i) (drop i letters)
   unfolding word_part
   part_taken e = rw (eq-eqb _ 0 e, word_part)
 
@@ -58,7 +62,7 @@ module _ (letters y : List ℕ) (i : ℕ) where
   unfolding word_part
   part_refused e = rw (ne_eqb _ 0 e, word_part)
 
-module _ (letters : List ℕ) (i : ℕ) where
+module _ {S : Type 0} (letters : List S) (i : ℕ) where
   pub start_taken : word_refusal (length letters) i ≡ 0 → word_start letters i ≡ i
   unfolding word_start
   start_taken e = rw (eq-eqb _ 0 e, word_start)
@@ -67,52 +71,71 @@ module _ (letters : List ℕ) (i : ℕ) where
   unfolding word_start
   start_refused e = rw (ne_eqb _ 0 e, word_start)
 
--- the letters or symbols from i on, and s their ranks: the longest Lyndon word at the front of s is that from i
-pub record Suffix (letters y : List ℕ) (i : ℕ) (s : List ℕ) : Type 0 where
-  pub inside : i < length letters
-  pub lengths : length (take (length letters - i) (drop i letters)) ≡ length letters - i
-  pub some : 0 < length s
-  pub longest : longest_lyndon s 0 ≡ longest_lyndon y i
-  pub fits : longest_lyndon y i ≤ length letters - i
+-- the longest Lyndon word from a position of the string ends in it
+fits : (y : List ℕ) (i : ℕ) → i < length y → longest_lyndon y i ≤ length y - i
+fits y i h = omega (arith, longest_next y i h, next_le y i)
 
--- so it is from a position that is not refused
-module _ (letters y : List ℕ) (i : ℕ) (q : length y ≡ length letters) (e : word_refusal (length letters) i ≡ 0) where
-  pub suffix : {s : List ℕ} → s ≡ drop i y → Suffix letters y i s
-  suffix cut =
-      let h : i < length letters = inside (length letters) i e in
-      record {
-        inside = h;
-        lengths = rw part_to_end (length-drop i letters);
-        some = omega (arith, q, ap length cut, length-drop i y);
-        longest = ap (λ l. longest_lyndon l 0) cut ∙ longest_from y i;
-        fits = omega (arith, q, longest_next y i (omega arith), next_le y i);
-      }
+-- so the part has as many letters as it
+pub taken_length : {S : Type 0} (letters : List S) (y : List ℕ) (i : ℕ) → length y ≡ length letters → word_refusal (length letters) i ≡ 0
+    → length (word_part letters y i) ≡ longest_lyndon y i
+taken_length letters y i q e =
+    let h : i < length y = omega (arith, q, inside (length letters) i e) in
+    ap length (part_taken letters y i e) ∙ length-take-le _ _ (omega (arith, q, length-drop i letters, fits y i h))
 
 pub word_is_longest : WordIsLongest
 word_is_longest letters y i q e =
-    let s = suffix letters y i q e refl in
-    let z : length (word_part letters y i) ≡ longest_lyndon y i =
-    ap length (part_taken letters y i e) ∙ part_length letters i (longest_lyndon y i) (omega (arith, s)) in
-    (omega (arith, z, longest_next y i (omega (arith, s))), z)
+    let h : i < length y = omega (arith, q, inside (length letters) i e) in
+    let z = taken_length letters y i q e in
+    (omega (arith, z, longest_next y i h), z)
 
--- ---- the answer, over letters and their ranks, and over symbols
+pub word_as_it_stands : WordAsItStands
+word_as_it_stands letters y i k e h =
+    let n = longest_lyndon y i in
+    rw (part_taken letters y i e) (get_or-take n (drop i letters) k 0 h ∙ get_or-drop i letters k 0)
 
-module _ {bytes : ℕ} {letters : Bor (List ℕ)} (y : List ℕ) {i number : ℕ} {word : Bor (List ℕ)} (e : number ≡ word_refusal (length letters.now) i) where
-  pub refused : number ≢ 0 → word.now ≡ [] → word.ref_ptr ≡ letters.ref_ptr → WordAnswered bytes letters y i number word
-  refused h empty own =
-      let g : word_refusal (length letters.now) i ≢ 0 = λ q. h (e ∙ q) in
+pub one_byte_or_four : OneByteOrFour
+one_byte_or_four = (refl, refl)
+
+-- ---- the answer
+
+-- where it is refused
+module _ {S : Type 0} {bytes : ℕ} (string : Bor (List S)) (y : List ℕ) (i : ℕ) where
+  refused : {number : ℕ} → number ≡ word_refusal (length string.now) i → number ≢ 0 → WordAnswered bytes string y i number (record { ref_ptr = string.ref_ptr; now = [] })
+  refused e d =
+      let g : word_refusal (length string.now) i ≢ 0 = λ q. d (e ∙ q) in
       record {
         refusal = e;
-        part = empty ∙ sym (part_refused letters.now y i g);
-        own = rw (start_refused letters.now i g, zero-mul, zero-add) own;
+        part = sym (part_refused string.now y i g);
+        own = rw (start_refused string.now i g, zero-mul, zero-add) refl;
       }
 
-  pub taken : word_refusal (length letters.now) i ≡ 0 → {k : ℕ} → k ≡ longest_lyndon y i → word.now ≡ take k (take (length letters.now - i) (drop i letters.now))
-      → word.ref_ptr ≡ (letters.ref_ptr.0, i * bytes + letters.ref_ptr.1) → WordAnswered bytes letters y i number word
-  unfolding part
-  taken z k now own =
-      record {
-        refusal = e;
-        part = now ∙ rw part_to_end (ap (part letters.now i) k ∙ sym (part_taken letters.now y i z));
-        own = rw (start_taken letters.now i z) own;
-      }
+  pub refused_long : 1000000 < length string.now → WordAnswered bytes string y i 1 (record { ref_ptr = string.ref_ptr; now = [] })
+  refused_long h = refused (sym (too_long_lem (length string.now) i h)) (omega arith)
+
+  pub refused_outside : length string.now ≤ 1000000 → length string.now ≤ i → WordAnswered bytes string y i 5 (record { ref_ptr = string.ref_ptr; now = [] })
+  refused_outside h g = refused (sym (outside (length string.now) i h g)) (omega arith)
+
+-- at a position of the string, where the search finds k in the suffix
+module _ {S : Type 0} (rank : S → ℕ) (string : Bor (List S)) (i : ℕ) (few : length string.now ≤ 1000000) (h : i < length string.now) where
+  abbrev suffix : List S
+  suffix = between i (length string.now) string.now
+
+  module _ {k : ℕ} (found : k ≡ longest_lyndon (map rank suffix) 0) where
+    from : k ≡ longest_lyndon (map rank string.now) i
+    from = rw (between_to_end string.now i (length string.now) (omega arith), ← drop-map rank i string.now) at found ∙ longest_from (map rank string.now) i
+
+    pub within : k ≡ length (take k suffix)
+    within =
+        let n = length-map string.now rank in
+        rw (between_to_end string.now i (length string.now) (omega arith))
+        (sym (length-take-le _ _ (omega (arith, length-drop i string.now, n, from, fits (map rank string.now) i (omega (arith, n))))))
+
+    pub taken : {bytes : ℕ} {word : Bor (List S)} → word.ref_ptr ≡ (string.ref_ptr.0, i * bytes + string.ref_ptr.1) → word.now ≡ take k suffix
+        → WordAnswered bytes string (map rank string.now) i 0 word
+    taken own now =
+        let e = not_refused (length string.now) i few h in
+        record {
+          refusal = sym e;
+          part = now ∙ rw (between_to_end string.now i (length string.now) (omega arith), from) (sym (part_taken string.now (map rank string.now) i e));
+          own = rw (start_taken string.now i e) own;
+        }

@@ -1,100 +1,48 @@
-// The longest Lyndon word at a position of a string: document 01, "The tree", last line. A string is of letters, or where `wide` is true of symbols
-// (document 02, T-07); the slice that it is not of is not read.
+// The longest Lyndon word at a position of a string: document 01, "The tree", last line.
 #![tactic(auto)]
 
-ghost use Rattle.std.specs.Prelude.{◌≡◌, ◌<◌, eqb, ltb, length, get_or};
+ghost use Rattle.std.specs.Prelude.{◌≡◌, ◌<◌, length, map};
+ghost use Rattle.std.specs.Mem.{type_size};
 ghost use Rattle.suffix.specs.Lyndon.{longest_lyndon};
-ghost use Rattle.ranks.specs.Ranks.{ranks, string_of};
-ghost use Rattle.refusal.specs.Conditions.{word_refusal};
-ghost use Rattle.word.specs.Word.{WordAnswered};
+ghost use Rattle.word.specs.Word.{WordAnswered, number_in, part_in};
 
+use ranks::{Letter, rank_at, same_at};
 use refusal::Refusal;
-
-// Whether the ranks at two places are equal.
-fn same_at(letters: &[u8], symbols: &[u32], wide: bool, a: usize, b: usize) -> bool
-    requires { (a < length (string_of wide letters.now symbols.now)) × (b < length (string_of wide letters.now symbols.now)) }
-    ensures { result ≡ eqb (get_or (string_of wide letters.now symbols.now) a 0) (get_or (string_of wide letters.now symbols.now) b 0) }
-{
-    if wide {
-        return symbols[a] == symbols[b];
-    }
-    ranks::same_rank(letters[a], letters[b])
-}
-
-// Whether the rank at a is below that at b.
-fn smaller_at(letters: &[u8], symbols: &[u32], wide: bool, a: usize, b: usize) -> bool
-    requires { (a < length (string_of wide letters.now symbols.now)) × (b < length (string_of wide letters.now symbols.now)) }
-    ensures { result ≡ ltb (get_or (string_of wide letters.now symbols.now) a 0) (get_or (string_of wide letters.now symbols.now) b 0) }
-{
-    if wide {
-        return symbols[a] < symbols[b];
-    }
-    ranks::rank(letters[a]) < ranks::rank(letters[b])
-}
 
 // The length of the longest Lyndon word at the front of a string, by Duval's plain search. The first j ranks repeat a Lyndon word of j - k of them:
 // an equal one goes on with the repeat, a greater one makes all that was read the word, a smaller one or the end stops.
-fn longest_lyndon_prefix(letters: &[u8], symbols: &[u32], wide: bool) -> usize
-    requires { 0 < length (string_of wide letters.now symbols.now) }
-    ensures { result ≡ longest_lyndon (string_of wide letters.now symbols.now) 0 }
+#[tactic(auto, using(crate::proofs::Duval::letter_equal, crate::proofs::Duval::letter_greater, crate::proofs::Duval::letter_smaller, crate::proofs::Duval::string_ends))]
+fn longest_lyndon_prefix<S: Letter>(string: &[S]) -> usize
+    requires { 0 < length string.now }
+    ensures { result ≡ longest_lyndon (map S.rank string.now) 0 }
 {
-    let n = ranks::string_length(letters, symbols, wide);
+    let n = string.len();
     let mut k = 0;
-    let mut j = 1;
-    while j < n {
-        if same_at(letters, symbols, wide, k, j) {
+    for j in 1..n {
+        if same_at(string, k, j) {
             k += 1;
-        } else {
-            if smaller_at(letters, symbols, wide, j, k) {
-                return j - k;
-            }
-            k = 0;
+            continue;
         }
-        j += 1;
+        if rank_at(string, j) < rank_at(string, k) {
+            return j - k;
+        }
+        k = 0;
     }
-    j - k
+    n - k
 }
 
-// The number of the refusal, 0 for none.
-fn word_refusal(n: usize, position: usize) -> u32
-    ensures { result ≡ word_refusal n position }
+// The longest Lyndon word at the position, as a part of the string.
+pub fn word<S: Letter>(string: &[S], position: usize) -> Result<&[S], Refusal>
+    ensures { WordAnswered (type_size S.row) string.entry (map S.rank string.now) position (number_in result) (part_in string.entry result) }
 {
+    let n = string.len();
     if n > 1000000 {
-        return refusal::number(Refusal::TooLong);
+        return Err(Refusal::TooLong);
     }
     if n <= position {
-        return refusal::number(Refusal::PositionOutside);
+        return Err(Refusal::PositionOutside);
     }
-    0
-}
-
-// The longest Lyndon word at the position, as a part of the letters; where it is refused, the empty part at their start, and the
-// number in `refused`, which is 0 otherwise.
-pub fn word<'a>(letters: &'a [u8], position: usize, refused: &mut u32) -> &'a [u8]
-    ensures { WordAnswered 1 letters.entry (ranks letters.now) position refused.new result }
-{
-    let number = word_refusal(letters.len(), position);
-    *refused = number;
-    if number != 0 {
-        return &letters[..0];
-    }
-    let suffix = &letters[position..];
-    let no_symbols = [0u32; 0];
-    let length = longest_lyndon_prefix(suffix, &no_symbols, false);
-    &suffix[..length]
-}
-
-// The same of symbols.
-pub fn word32<'a>(symbols: &'a [u32], position: usize, refused: &mut u32) -> &'a [u32]
-    ensures { WordAnswered 4 symbols.entry symbols.now position refused.new result }
-{
-    let number = word_refusal(symbols.len(), position);
-    *refused = number;
-    if number != 0 {
-        return &symbols[..0];
-    }
-    let suffix = &symbols[position..];
-    let no_letters = [0u8; 0];
-    let length = longest_lyndon_prefix(&no_letters, suffix, true);
-    &suffix[..length]
+    let suffix = &string[position..];
+    let length = longest_lyndon_prefix(suffix);
+    Ok(&suffix[..length])
 }

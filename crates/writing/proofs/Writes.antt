@@ -1,11 +1,10 @@
 -- Writes one behind the other, and puts, which write as much as there is room for.
 use mathlib.Core.Path.{◌≡◌, refl, sym, ap, ◌∙◌}
 use mathlib.Core.List.{List, [], ◌∷◌, ◌++◌, append_assoc, append-nil}
-use Prim.Native.Nat.{ℕ, zero, suc, ◌+◌, ◌-◌, ◌≤◌, ◌<◌}
-use native.Mathlib.Numerals.{add-one}
+use Prim.Native.Nat.{ℕ, zero, suc, ◌+◌, ◌-◌, ◌≤◌}
 use native.Mathlib.Omega.{arith}
-use lib.ListN.{length, take, drop, set, length-append, length-take, length-drop, take-append-drop}
-use lib.Seq.{take_at, drop_at, drop-drop, drop-set-lt, take_all, take-nil, take-length, length-take-le, take-suc-set}
+use lib.ListN.{length, take, drop, length-append, length-take, length-drop, take-append-drop}
+use lib.Seq.{take_at, drop_at, drop-drop, take_all, take-nil, take-length, length-take-le}
 use Rattle.writing.specs.Writing.{Wrote, Put}
 
 -- what is the same from y on is the same further on
@@ -45,18 +44,8 @@ wrote_part a s e x k n h f g w = record { size = omega arith; text = rw shape (t
     size : length (take x a ++ s) ≡ x + n
     size = omega (arith, length-append (take x a) s, length-take-le x a (omega arith))
 
-pub wrote_byte : (a : List ℕ) (x b : ℕ) → x < length a → Wrote a (set a x b) (b ∷ []) x (x + 1)
-wrote_byte a x b h = record { size = refl; text = rw add-one (take-suc-set a x b h); rest = rw add-one (drop-set-lt (suc x) a x b (omega arith)) }
-
--- where there is no room nothing is put
-pub put_past : (a t : List ℕ) (x : ℕ) → length a ≤ x → Put a a t x x
-put_past a t x h = let z : length a - x ≡ 0 = omega arith in record { wrote = rw z (wrote_none a x) }
-
 pub put_none : (a : List ℕ) (x : ℕ) → Put a a [] x x
 put_none a x = record { wrote = rw take-nil (wrote_none a x) }
-
-pub put_byte : (a : List ℕ) (x b : ℕ) {z : ℕ} → x < length a → z ≡ x + 1 → Put a (set a x b) (b ∷ []) x z
-put_byte a x b h e = record { wrote = rw (e, take_all (length a - x) (b ∷ []) (omega arith)) (wrote_byte a x b h) }
 
 -- where there is room for all of the text, all of it is put
 pub put_fits : {a b t : List ℕ} {x z : ℕ} → Put a b t x z → x + length t ≤ length a → Wrote a b t x z

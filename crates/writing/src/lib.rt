@@ -22,8 +22,8 @@ pub fn put(out: &mut [u8], at: usize, s: &[u8]) -> usize
     ensures { Put out.old out.new s.now at result }
 {
     let mut end = at;
-    for k in 0..s.len() {
-        end = put_byte(out, end, s[k]);
+    for &b in s {
+        end = put_byte(out, end, b);
     }
     end
 }
@@ -49,8 +49,8 @@ pub fn put_hexes(out: &mut [u8], at: usize, s: &[u8]) -> usize
     ensures { Put out.old out.new (hexes s.now (length s.now)) at result }
 {
     let mut end = at;
-    for k in 0..s.len() {
-        end = put_hex(out, end, s[k]);
+    for &b in s {
+        end = put_hex(out, end, b);
     }
     end
 }

@@ -1,52 +1,40 @@
 -- `build::build_tables` meets its contract: each way out is a law of outcome/proofs/Alone.antt.
-use mathlib.Core.Path.{◌≡◌, refl, sym, ap, ◌∙◌}
-use mathlib.Core.List.{List}
-use Prim.Native.Nat.{ℕ}
+use mathlib.Core.Path.{sym, ap, ◌∙◌}
 use native.Mathlib.Omega.{arith}
-use lib.ListN.{length}
-use Rattle.suffix.specs.Rows.{Tables}
-use Rattle.ranks.specs.Ranks.{string_of}
-use Rattle.refusal.specs.Numbers.{verdict_number}
-use Rattle.refusal.specs.Conditions.{tables_refusal}
-use Rattle.refusal.proofs.Tables as verdict
-use Rattle.outcome.specs.Built.{tables_of}
-use Rattle.build.specs.States.{oriented_string, progress_of, build_state}
+use Rattle.std.specs.Prelude.{map}
+use Rattle.ranks.specs.Ranks.{oriented}
+use Rattle.refusal.specs.Numbers.{number_of}
+use Rattle.entries.specs.Lent.{tables_in}
+use Rattle.build.specs.States.{progress_of, build_state}
 use Rattle.build.proofs.Strings.{string_length}
 use Rattle.build.proofs.Clearing.{none_left}
+use Rattle.std.proofs.lemmas.Result.{err_from_is_err_and}
+use Rattle.refusal.proofs.Tables as verdict
 use Rattle.outcome.proofs.Alone as alone
 use Rattle.build.proofs.build_tables.Goals as goal
 
-pub returns-in-Refused : goal.returns-in-Refused
-returns-in-Refused c =
-    let before : Tables = let g = c.args in tables_of g.previous.now g.next.now g.previous_match.now g.next_match.now in
-    let y : List ℕ = oriented_string c.args.wide c.args.reverse c.args.letters.now c.args.symbols.now in
-    let same : (n : ℕ) → n ≡ length (string_of c.args.wide c.args.letters.now c.args.symbols.now) → n ≡ length y = λ n e. e ∙ sym (string_length c.args.wide c.args.reverse c.args.letters.now c.args.symbols.now) in
-    alone.refused y before c.in-Refused.refusal
-    (sym (ap verdict_number c.in-Refused.is) ∙ c.tables_verdict-verdict.ensures ∙ alone.refusal_at y before (same _ c.string_length-n.ensures))
+pub returns-in_err-tables_verdict-clause-built : goal.returns-in_err-tables_verdict-clause-built
+returns-in_err-tables_verdict-clause-built g c =
+    let p = err_from_is_err_and c.from_residual.result c.from_residual.ensures.1 in
+    let y = oriented c.args.reverse (map g.S.Letter.rank c.args.string.now) in
+    let same = sym (string_length g.S.Letter.rank c.args.reverse c.args.string.now) in
+    rw p.1 (alone.refused y (tables_in c.args.tables.now) _ (ap number_of p.2 ∙ c.in_err-tables_verdict.ensures ∙ alone.refusal_at y (tables_in c.args.tables.now) same))
 
-pub build_rows-requires : goal.build_rows-requires
-build_rows-requires c =
-    let before : Tables = let g = c.args in tables_of g.previous.now g.next.now g.previous_match.now g.next_match.now in
-    let accepted : let t = before in
-    tables_refusal c.string_length-n.result (length t.previous) (length t.next) (length t.previous_match) (length t.next_match) ≡ 0 = sym c.tables_verdict-verdict.ensures ∙ ap verdict_number c.in_default.is in
-    let lengths : alone.Lengths c.string_length-n.result before = verdict.taken _ _ _ _ _ accepted in
-    let a = lengths in
-    record { symbols_len = (sym c.string_length-n.ensures, a.few, omega arith); previous_len = (a.previous, a.next, a.previous_match, a.next_match); tree_len_bound = (omega arith, refl) }
+pub build_rows-requires-clause-few : goal.build_rows-requires-clause-few
+build_rows-requires-clause-few g c = let a = verdict.taken _ _ _ _ _ (sym c.in_ok-tables_verdict.ensures) in (a.few, omega arith)
 
-pub returns : goal.returns
-returns c =
-    let before : Tables = let g = c.args in tables_of g.previous.now g.next.now g.previous_match.now g.next_match.now in
-    let y : List ℕ = oriented_string c.args.wide c.args.reverse c.args.letters.now c.args.symbols.now in
-    let same : (n : ℕ) → n ≡ length (string_of c.args.wide c.args.letters.now c.args.symbols.now) → n ≡ length y = λ n e. e ∙ sym (string_length c.args.wide c.args.reverse c.args.letters.now c.args.symbols.now) in
-    let accepted : let t = before in
-    tables_refusal c.string_length-n.result (length t.previous) (length t.next) (length t.previous_match) (length t.next_match) ≡ 0 = sym c.tables_verdict-verdict.ensures ∙ ap verdict_number c.in_default.is in
-    let lengths : alone.Lengths c.string_length-n.result before = verdict.taken _ _ _ _ _ accepted in
-    let after : Tables = let u = c.build_rows.new in tables_of u.previous u.next u.previous_match u.next_match in
-    let a = lengths in
-    let n = c.string_length-n.result in
-    let e = same _ c.string_length-n.ensures in
-    let none =
-    none_left n after (c.previous-1.given ∙ a.previous) (c.next-1.given ∙ a.next)
-    (c.previous_match-1.given ∙ a.previous_match) (c.next_match-1.given ∙ a.next_match) in
-    alone.built y before n (sym e) (sym (alone.refusal_at y before e) ∙ accepted) (progress_of c.build_rows.result) after
-    (ap (build_state c.build_rows.result) (sym none) ∙ c.build_rows.ensures.next_match_after)
+pub build_rows-requires-clause-long : goal.build_rows-requires-clause-long
+build_rows-requires-clause-long g c =
+    let a = verdict.taken _ _ _ _ _ (sym c.in_ok-tables_verdict.ensures) in
+    record { previous = a.previous; next = a.next; previous_match = a.previous_match; next_match = a.next_match }
+
+pub returns-clause-built : goal.returns-clause-built
+returns-clause-built g c =
+    let y = oriented c.args.reverse (map g.S.Letter.rank c.args.string.now) in
+    let long = string_length g.S.Letter.rank c.args.reverse c.args.string.now in
+    let before = tables_in c.args.tables.now in
+    let after = tables_in c.build_rows.new.tables in
+    let L = c.build_rows.ensures.still_long in
+    let whole = none_left _ after L.previous L.next L.previous_match L.next_match in
+    alone.built y before _ long (sym (alone.refusal_at y before (sym long)) ∙ sym c.in_ok-tables_verdict.ensures) (progress_of c.build_rows.result) after
+    (ap (build_state c.build_rows.result) (sym whole) ∙ c.build_rows.ensures.steps)

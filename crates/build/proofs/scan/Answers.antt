@@ -1,20 +1,37 @@
 -- `build::scan` meets its contract.
-use Rattle.ranks.proofs.Ranks.{ranks_length}
-use Rattle.build.proofs.Strings.{of_symbols, of_letters}
+use mathlib.Core.Path.{◌≡◌, sym}
+use Prim.Native.Nat.{◌-◌}
+use native.Mathlib.Omega.{arith}
+use lib.ListN.{length}
+use borrow.Author.Tests.{eqb-true, eqb-false}
+use Rattle.build.proofs.Strings.{string_length, string_entry, same_entry, other_entry}
+use Rattle.build.proofs.Settling.{scan_starts, scan_ends, scan_goes, scan_stops}
 use Rattle.build.proofs.scan.Goals as goal
 
-pub scan_symbols-requires : goal.scan_symbols-requires
-scan_symbols-requires c = rw c.if-wide.true at c.requires
+pub loop-m-init : goal.loop-m-init
+loop-m-init g c = scan_starts _ _ _ _ _ _ (omega (arith, string_length g.S.Letter.rank c.args.reverse c.args.string.now))
 
-pub returns-then-wide : goal.returns-then-wide
-returns-then-wide c =
-    let g = c.args in
-    of_symbols g.wide g.reverse g.letters.now g.symbols.now c.if-wide.true c.scan_symbols.ensures
+pub loop-m-preserved : goal.loop-m-preserved
+loop-m-preserved g c =
+    let long = string_length g.S.Letter.rank c.args.reverse c.args.string.now in
+    let same = eqb-true _ _ (sym c.if-not-same_at.ensures) in
+    scan_goes _ _ _ _ _ _ c.loop-m.invariant (omega (arith, long)) (same_entry g.S.Letter.rank c.args.reverse c.args.string.now _ _ (omega arith) (omega arith) same)
 
-pub scan_letters-requires : goal.scan_letters-requires
-scan_letters-requires c = rw (c.if-wide.false, ranks_length c.args.letters.now) at c.requires
+pub returns-then-not-same_at : goal.returns-then-not-same_at
+returns-then-not-same_at g c =
+    let rank = g.S.Letter.rank in
+    let string = c.args.string.now in
+    let long = string_length rank c.args.reverse string in
+    let left = string_entry rank c.args.reverse string _ (omega arith) c.rank_at-left.ensures in
+    let right = string_entry rank c.args.reverse string _ (omega arith) c.rank_at-right.ensures in
+    let other = eqb-false _ _ (sym c.if-not-same_at.ensures) in
+    rw (c.differs.ensures, left, right)
+    (scan_stops _ _ _ _ _ _ c.loop-m.invariant (omega (arith, long))
+    (other_entry rank c.args.reverse string _ _ c.rank_at-left.ensures c.rank_at-right.ensures (omega arith) (omega arith) (omega arith) (omega arith) other))
 
 pub returns : goal.returns
-returns c =
-    let g = c.args in
-    of_letters g.wide g.reverse g.letters.now g.symbols.now c.if-wide.false c.scan_letters.ensures
+returns g c =
+    let long = string_length g.S.Letter.rank c.args.reverse c.args.string.now in
+    let S = c.loop-m.invariant in
+    let at_end : c.loop-m.m ≡ length c.args.string.now - c.args.r = omega (arith, long, S.inside) in
+    rw (← at_end) (scan_ends _ _ _ _ _ _ S (omega (arith, long)))

@@ -5,4 +5,4 @@ use Rattle.cabinet.proofs.LittleEndian.{number_is}
 use Rattle.cabinet_reader.proofs.number_at.Goals as goal
 
 pub returns : goal.returns
-returns c = c.joined.ensures ∙ number_is c.args.file.now c.args.at c.requires (omega arith) (omega arith) (omega arith) (omega arith)
+returns c = c.from_le_bytes.ensures ∙ number_is c.args.file.now c.args.at c.requires c.copy_from_slice.ensures.after (omega arith)

@@ -6,7 +6,7 @@ use mathlib.Core.List.{List, ◌++◌}
 use lib.ListN.{length, drop}
 use Rattle.writing.proofs.Writes.{wrote_then}
 use Rattle.cabinet.specs.File.{marked_file}
-use Rattle.cabinet_writer.proofs.Filling.{mark_put, rest_put, filled}
+use Rattle.cabinet_writer.proofs.Filling.{mark_put, copied, filled}
 use Rattle.cabinet_writer.proofs.fill.Goals as goal
 
 pub returns : goal.returns
@@ -17,5 +17,5 @@ returns c =
     let now = c.put_contents.new.file in
     let at = 8 + 8 * length c.args.counts.now in
     let mark = mark_put file _ (ap (λ (l : List ℕ). l ++ drop 4 file) c.copy_from_slice.ensures.after) refl in
-    let bodies = rest_put now trees c.copy_from_slice-2.new.self at (length now - at) (omega arith) (omega arith) c.copy_from_slice-2.ensures.after in
-    filled (wrote_then (wrote_then (wrote_then mark c.put_number.ensures) c.put_contents.ensures) bodies) (omega (arith, c.file-4-1.given, c.requires.1))
+    let bodies = copied now trees c.copy_from_slice-2.new.self at (length now - at) (omega arith) (omega arith) c.copy_from_slice-2.ensures.after in
+    filled (wrote_then (wrote_then (wrote_then mark c.put_number.ensures) c.put_contents.ensures) bodies) (omega (arith, c.requires.1))

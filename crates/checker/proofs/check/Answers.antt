@@ -1,52 +1,28 @@
 -- `checker::check` meets its contract, by the build's and the laws of proofs/Laws.antt.
-use mathlib.Core.Path.{◌≡◌, sym, ap, ◌∙◌}
-use mathlib.Core.Logic.{◌≢◌}
-use mathlib.Core.Bool.{true, false}
-use Prim.Native.Nat.{ℕ, ◌≤◌}
-use borrow.Author.Tests.{eq-eqb, ne_eqb}
-use mathlib.Core.List.{List}
-use Prim.Native.Nat.{ℕ}
-use native.Mathlib.Omega.{arith}
-use lib.ListN.{length}
-use Rattle.suffix.specs.Rows.{Tables}
-use Rattle.ranks.specs.Ranks.{string_of}
-use Rattle.refusal.specs.Conditions.{table_length_off}
-use Rattle.outcome.specs.Built.{tables_of, tables_refusal_of}
-use Rattle.checker.specs.Checked.{check_refusal}
-use Rattle.checker.proofs.Laws as laws
+use Rattle.std.proofs.Common.{arith, Ok, Err, refl, ◌∙◌}
+use Rattle.std.proofs.lemmas.List.{length-map}
+use Rattle.std.proofs.lemmas.Result.{err_from_is_err_and}
+use Rattle.refusal.proofs.Numbers.{positive}
+use Rattle.checker.proofs.Laws.{wrong_length, build_refused, lengths, checked}
 use Rattle.checker.proofs.check.Goals as goal
 
--- a length by the test
-is_off : {n a : ℕ} → a ≢ n → table_length_off n a ≡ true
-is_off {n} {a} e = rw (ne_eqb a n e)
+pub returns-then-claimed-n-clause-checked : goal.returns-then-claimed-n-clause-checked
+returns-then-claimed-n-clause-checked g c =
+    let n = length-map c.args.string.now g.S.Letter.rank in
+    wrong_length _ _ _ (omega (arith, n)) (λ e. c.if-claimed-n.true (e ∙ n))
 
-is_right : {n a : ℕ} → a ≡ n → table_length_off n a ≡ false
-is_right {n} {a} e = rw (eq-eqb a n e)
+pub returns-in_err-build_tables-clause-checked : goal.returns-in_err-build_tables-clause-checked
+returns-in_err-build_tables-clause-checked g c =
+    let n = length-map c.args.string.now g.S.Letter.rank in
+    let p = err_from_is_err_and c.from_residual.result c.from_residual.ensures.1 in
+    rw (p.1, p.2) (build_refused _ _ {verdict = Err c.in_err-build_tables.field-0.0} c.in_err-build_tables.ensures.built (λ h. grind (arith, n)) (positive _))
 
-pub returns-then-claimed-n : goal.returns-then-claimed-n
-returns-then-claimed-n c =
-    let work : Tables = let g = c.args in tables_of g.previous.now g.next.now g.previous_match.now g.next_match.now in
-    let y : List ℕ = string_of c.args.wide c.args.letters.now c.args.symbols.now in
-    let by_string : table_length_off (length y) (length c.args.claimed.now) ≡ table_length_off c.string_length-n.result (length c.args.claimed.now) = ap (λ n. table_length_off n (length c.args.claimed.now)) (sym c.string_length-n.ensures) in
-    laws.refused_claim y c.args.claimed.now work (omega arith)
-    (laws.claimed_off y c.args.claimed.now work (omega (arith, c.string_length-n.ensures)) (by_string ∙ is_off c.if-claimed-n.true) (omega arith))
+pub first_difference-requires : goal.first_difference-requires
+first_difference-requires g c =
+    let n = length-map c.args.string.now g.S.Letter.rank in
+    lengths _ _ {verdict = Ok tt} c.in_ok-build_tables.ensures.built (λ h. grind (arith, n)) refl
 
-pub compared-requires : goal.compared-requires
-compared-requires c =
-    let work : Tables = let g = c.args in tables_of g.previous.now g.next.now g.previous_match.now g.next_match.now in
-    let y : List ℕ = string_of c.args.wide c.args.letters.now c.args.symbols.now in
-    let by_string : table_length_off (length y) (length c.args.claimed.now) ≡ table_length_off c.string_length-n.result (length c.args.claimed.now) = ap (λ n. table_length_off n (length c.args.claimed.now)) (sym c.string_length-n.ensures) in
-    let fits : c.string_length-n.result ≤ 1000000 → length c.args.claimed.now ≡ c.string_length-n.result = λ h. grind arith in
-    let same_refusal : check_refusal y c.args.claimed.now work ≡ tables_refusal_of y work = laws.same_refusal y c.args.claimed.now work (λ h. by_string ∙ is_right (fits (omega (arith, h, c.string_length-n.ensures)))) in
-    let left : Tables = let u = c.build_tables-built.new in tables_of u.previous u.next u.previous_match u.next_match in
-    laws.lengths y c.args.claimed.now {before = work} {after = left} c.build_tables-built.ensures same_refusal
-
-pub returns : goal.returns
-returns c =
-    let work : Tables = let g = c.args in tables_of g.previous.now g.next.now g.previous_match.now g.next_match.now in
-    let y : List ℕ = string_of c.args.wide c.args.letters.now c.args.symbols.now in
-    let by_string : table_length_off (length y) (length c.args.claimed.now) ≡ table_length_off c.string_length-n.result (length c.args.claimed.now) = ap (λ n. table_length_off n (length c.args.claimed.now)) (sym c.string_length-n.ensures) in
-    let fits : c.string_length-n.result ≤ 1000000 → length c.args.claimed.now ≡ c.string_length-n.result = λ h. grind arith in
-    let same_refusal : check_refusal y c.args.claimed.now work ≡ tables_refusal_of y work = laws.same_refusal y c.args.claimed.now work (λ h. by_string ∙ is_right (fits (omega (arith, h, c.string_length-n.ensures)))) in
-    let left : Tables = let u = c.build_tables-built.new in tables_of u.previous u.next u.previous_match u.next_match in
-    laws.checked y c.args.claimed.now {before = work} {after = left} c.build_tables-built.ensures same_refusal c.compared.ensures
+pub returns-clause-checked : goal.returns-clause-checked
+returns-clause-checked g c =
+    let n = length-map c.args.string.now g.S.Letter.rank in
+    checked _ _ {verdict = Ok tt} c.in_ok-build_tables.ensures.built (λ h. grind (arith, n)) refl c.first_difference.ensures

@@ -1,8 +1,9 @@
 -- `lyndon::lyndon_word` meets its contract.
-use native.Mathlib.Omega.{arith}
+use mathlib.Core.Path.{◌∙◌}
+use Rattle.ranks.specs.Ranks.{ranks}
 use Rattle.ranks.proofs.Ranks.{ranks_length}
 use Rattle.lyndon.proofs.Replying.{word_replied}
 use Rattle.lyndon.proofs.lyndon_word.Goals as goal
 
 pub returns : goal.returns
-returns c = word_replied c.word-part.ensures (omega arith) (ranks_length c.args.letters.now) (omega arith) c.part_reply.ensures
+returns c = c.part_reply.ensures ∙ word_replied (ranks c.args.letters.now) c.args.position (ranks_length c.args.letters.now) c.word.result c.word.ensures

@@ -1,14 +1,10 @@
 -- `root_runs::judged_report` meets its contract.
-use mathlib.Core.Path.{◌∙◌}
-use native.Mathlib.Omega.{arith}
-use Rattle.root_runs.proofs.Judging.{reports_first, reports_second, reports_none}
+use mathlib.Core.Path.{sym}
+use Rattle.root_runs.proofs.Judging.{first_reported, second_reported}
 use Rattle.root_runs.proofs.judged_report.Goals as goal
 
-pub returns-then-x-gt0 : goal.returns-then-x-gt0
-returns-then-x-gt0 c = reports_first _ _ _ _ _ _ _ c.accepted_left-x.ensures (omega arith) (omega arith) (omega arith) (omega arith)
-
-pub returns-then-z-gt0 : goal.returns-then-z-gt0
-returns-then-z-gt0 c = reports_second _ _ _ _ _ _ _ c.accepted_left-x.ensures (omega arith) _ c.accepted_left-z.ensures (omega arith) (omega arith) (omega arith) (omega arith)
+pub returns-then-is_some : goal.returns-then-is_some
+returns-then-is_some g c = first_reported _ _ _ _ _ _ c.accepted-run.result c.accepted-run.ensures (sym c.if-is_some.ensures)
 
 pub returns : goal.returns
-returns c = c.no_run.ensures ∙ reports_none _ _ _ _ _ _ _ c.accepted_left-x.ensures (omega arith) _ c.accepted_left-z.ensures (omega arith)
+returns g c = second_reported _ _ _ _ _ _ c.accepted-run.result c.accepted.result c.accepted-run.ensures (sym c.if-is_some.ensures) c.accepted.ensures

@@ -1,40 +1,17 @@
 -- `roots::any_off` meets its contract.
-use mathlib.Core.Path.{refl}
-use native.Mathlib.Omega.{arith}
-use Rattle.roots.proofs.Refusing.{off_here, off_later}
+use mathlib.Core.Path.{refl, ◌∙◌}
+use mathlib.Core.Bool.{◌||◌}
+use Rattle.std.proofs.Common.{rules, tests}
+use Rattle.std.specs.List.{list_any}
+use Rattle.std.proofs.lemmas.List.Recursion.{same_from_clauses}
+use Rattle.std.proofs.lemmas.Iterator.{YieldsList-from_slice}
+use Rattle.std.proofs.lemmas.Iterator.Search.{any_from_yields_List}
+use Rattle.repeats.specs.Refusals.{work_length_off}
+use Rattle.refusal.specs.Conditions.{table_length_off}
 use Rattle.roots.proofs.any_off.Goals as goal
-
-pub returns-then-a-n : goal.returns-then-a-n
-returns-then-a-n c =
-    let g = c.args in
-    off_here g.a g.n _ (omega arith)
-
-pub returns-then-b-n : goal.returns-then-b-n
-returns-then-b-n c =
-    let g = c.args in
-    off_later g.a g.n (omega arith) (off_here g.b g.n _ (omega arith))
-
-pub returns-then-c-n : goal.returns-then-c-n
-returns-then-c-n c =
-    let g = c.args in
-    off_later g.a g.n (omega arith) (off_later g.b g.n (omega arith) (off_here g.c g.n _ (omega arith)))
-
-pub returns-then-d-n : goal.returns-then-d-n
-returns-then-d-n c =
-    let g = c.args in
-    off_later g.a g.n (omega arith) (off_later g.b g.n (omega arith) (off_later g.c g.n (omega arith) (off_here g.d g.n _ (omega arith))))
-
-pub returns-then-e-n : goal.returns-then-e-n
-returns-then-e-n c =
-    let g = c.args in
-    off_later g.a g.n (omega arith) (off_later g.b g.n (omega arith) (off_later g.c g.n (omega arith) (off_later g.d g.n (omega arith) (off_here g.e g.n _ (omega arith)))))
-
-pub returns-then-f-n : goal.returns-then-f-n
-returns-then-f-n c =
-    let g = c.args in
-    off_later g.a g.n (omega arith) (off_later g.b g.n (omega arith) (off_later g.c g.n (omega arith) (off_later g.d g.n (omega arith) (off_later g.e g.n (omega arith) (off_here g.f g.n _ (omega arith))))))
 
 pub returns : goal.returns
 returns c =
-    let g = c.args in
-    off_later g.a g.n (omega arith) (off_later g.b g.n (omega arith) (off_later g.c g.n (omega arith) (off_later g.d g.n (omega arith) (off_later g.e g.n (omega arith) (off_later g.f g.n (omega arith) (refl))))))
+    let n = c.args.n in
+    any_from_yields_List (table_length_off n) _ _ _ c.any.ensures.ran (YieldsList-from_slice c.args.lengths cc) (λ x b q k. search (rules, tests))
+    ∙ same_from_clauses (list_any (table_length_off n)) (work_length_off n) (λ x b. table_length_off n x || b) refl (λ _ _. refl) (λ _ _. refl) c.args.lengths

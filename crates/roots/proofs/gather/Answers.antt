@@ -1,105 +1,45 @@
--- `roots::gather` meets its contract.
-use mathlib.Core.Path.{◌≡◌, sym, ap, ◌∙◌}
-use mathlib.Core.List.{List, [], ◌∷◌, map}
-use Prim.Native.Nat.{ℕ}
-use native.Mathlib.Omega.{arith}
-use lib.ListN.{length}
-use Rattle.ranks.specs.Ranks.{string_of}
-use Rattle.repeats.specs.Refusals.{lists}
-use Rattle.roots.specs.WorkTables.{work_refusal}
-use Rattle.roots.proofs.Refusing.{Fitting, fitting, says_one, says_two, says_none, refused, gathered}
+-- `roots::gather` meets its contract: no build refuses what the verdict does not.
+use Rattle.std.proofs.Common.{rules, sym, ap, ◌∙◌}
+use Rattle.std.proofs.lemmas.List.{length-map}
+use Rattle.std.proofs.lemmas.Result.{err_from_is_err_and}
+use Rattle.std.specs.Prelude.{true, false}
+use Rattle.refusal.specs.Numbers.{number_of}
+use Rattle.entries.specs.Lent.{tables_in}
+use Rattle.roots.proofs.Gathering.{tabled, tabled_as, not_refused}
+use Rattle.roots.proofs.Refusing.{for_build, for_reverse, has_room, refused, gathered}
 use Rattle.roots.proofs.gather.Goals as goal
 
--- ---- what is lent
+pub returns-in_err-verdict-clause-gathered : goal.returns-in_err-verdict-clause-gathered
+returns-in_err-verdict-clause-gathered g c =
+    let n = sym (length-map c.args.string.now g.S.Letter.rank) in
+    let p = err_from_is_err_and c.from_residual.result c.from_residual.ensures.1 in
+    rw p.1 (refused _ _ _ (ap number_of p.2 ∙ c.in_err-verdict.ensures) n)
 
--- ---- the way back: all is cleared, the runs are collected, the reverse order is built, the order is built, nothing is refused
+pub returns-in_err-build_tables-clause-gathered : goal.returns-in_err-build_tables-clause-gathered
+returns-in_err-build_tables-clause-gathered g c =
+    let n = sym (length-map c.args.string.now g.S.Letter.rank) in
+    absurd (not_refused _ false (for_build _ c.args.work.now n c.in_ok-verdict.ensures) c.in_err-build_tables.ensures.built)
 
--- ---- the needs
+pub returns-in_err-build_tables-2-clause-gathered : goal.returns-in_err-build_tables-2-clause-gathered
+returns-in_err-build_tables-2-clause-gathered g c =
+    let n = sym (length-map c.args.string.now g.S.Letter.rank) in
+    absurd (not_refused _ true (for_reverse _ c.args.work.now n c.in_ok-verdict.ensures _ c.in_ok-build_tables.ensures.built (search rules) (search rules)) c.in_err-build_tables-2.ensures.built)
 
-pub returns-then-n-gt1000000 : goal.returns-then-n-gt1000000
-returns-then-n-gt1000000 c =
-    let y : List ℕ = string_of c.args.wide c.args.letters.now c.args.symbols.now in
-    let work : List (List ℕ) = let g = c.args in
-    g.previous.now ∷ g.next.now ∷ g.previous_match.now ∷ g.next_match.now ∷ g.reverse_next.now ∷ g.reverse_match.now ∷ [] in
-    let refusal : ℕ → ℕ = λ n. work_refusal n (map length work) in
-    refused y work _ (says_one c.string_length-n.result (map length work) (omega arith) (omega arith) ∙ ap refusal c.string_length-n.ensures)
+pub collect-requires-clause-room : goal.collect-requires-clause-room
+collect-requires-clause-room g c =
+    let n = sym (length-map c.args.string.now g.S.Letter.rank) in
+    has_room _ c.args.work.now n c.in_ok-verdict.ensures (for_reverse _ c.args.work.now n c.in_ok-verdict.ensures _ c.in_ok-build_tables.ensures.built (search rules) (search rules))
+    (tables_in c.build_tables-2.new.tables) c.in_ok-build_tables-2.ensures.built (search rules) (search rules)
 
-pub returns-then-any_off : goal.returns-then-any_off
-returns-then-any_off c =
-    let y : List ℕ = string_of c.args.wide c.args.letters.now c.args.symbols.now in
-    let work : List (List ℕ) = let g = c.args in
-    g.previous.now ∷ g.next.now ∷ g.previous_match.now ∷ g.next_match.now ∷ g.reverse_next.now ∷ g.reverse_match.now ∷ [] in
-    let refusal : ℕ → ℕ = λ n. work_refusal n (map length work) in
-    refused y work _ (says_two c.string_length-n.result (map length work) (omega arith) c.any_off.ensures c.if-any_off.true (omega arith) ∙ ap refusal c.string_length-n.ensures)
+pub collect-requires-clause-tabled : goal.collect-requires-clause-tabled
+collect-requires-clause-tabled g c =
+    let n = sym (length-map c.args.string.now g.S.Letter.rank) in
+    tabled_as (tabled _ false (for_build _ c.args.work.now n c.in_ok-verdict.ensures) c.in_ok-build_tables.ensures.built) (search rules) (search rules)
 
-pub tables_of-requires : goal.tables_of-requires
-tables_of-requires c =
-    let work : List (List ℕ) = let g = c.args in
-    g.previous.now ∷ g.next.now ∷ g.previous_match.now ∷ g.next_match.now ∷ g.reverse_next.now ∷ g.reverse_match.now ∷ [] in
-    let refusal : ℕ → ℕ = λ n. work_refusal n (map length work) in
-    let taken : refusal c.string_length-n.result ≡ 0 = sym (says_none c.string_length-n.result (map length work) (omega arith) c.any_off.ensures c.if-any_off.false (omega arith)) in
-    let fits : let g = c.args in
-    Fitting c.string_length-n.result (length g.previous.now) (length g.next.now) (length g.previous_match.now) (length g.next_match.now) (length g.reverse_next.now) (length g.reverse_match.now) = fitting _ _ _ _ _ _ _ taken in
-    let y : List ℕ = string_of c.args.wide c.args.letters.now c.args.symbols.now in
-    let long : length y ≡ c.string_length-n.result = sym c.string_length-n.ensures in
-    let s = fits in
-    record { symbols_len = (long, s.few); previous_len = (s.previous, s.next, s.previous_match, s.next_match) }
+pub collect-requires-clause-reverse_tabled : goal.collect-requires-clause-reverse_tabled
+collect-requires-clause-reverse_tabled g c =
+    let n = sym (length-map c.args.string.now g.S.Letter.rank) in
+    tabled_as (tabled _ true (for_reverse _ c.args.work.now n c.in_ok-verdict.ensures _ c.in_ok-build_tables.ensures.built (search rules) (search rules)) c.in_ok-build_tables-2.ensures.built) (search rules) (search rules)
 
-pub tables_of-requires-2 : goal.tables_of-requires-2
-tables_of-requires-2 c =
-    let work : List (List ℕ) = let g = c.args in
-    g.previous.now ∷ g.next.now ∷ g.previous_match.now ∷ g.next_match.now ∷ g.reverse_next.now ∷ g.reverse_match.now ∷ [] in
-    let refusal : ℕ → ℕ = λ n. work_refusal n (map length work) in
-    let taken : refusal c.string_length-n.result ≡ 0 = sym (says_none c.string_length-n.result (map length work) (omega arith) c.any_off.ensures c.if-any_off.false (omega arith)) in
-    let fits : let g = c.args in
-    Fitting c.string_length-n.result (length g.previous.now) (length g.next.now) (length g.previous_match.now) (length g.next_match.now) (length g.reverse_next.now) (length g.reverse_match.now) = fitting _ _ _ _ _ _ _ taken in
-    let y : List ℕ = string_of c.args.wide c.args.letters.now c.args.symbols.now in
-    let long : length y ≡ c.string_length-n.result = sym c.string_length-n.ensures in
-    let s = fits in
-    record { symbols_len = (long, s.few); previous_len = (c.previous-1.given ∙ s.previous, s.reverse_next, c.previous_match-1.given ∙ s.previous_match, s.reverse_match) }
-
-pub collect-count-requires : goal.collect-count-requires
-collect-count-requires c =
-    let work : List (List ℕ) = let g = c.args in
-    g.previous.now ∷ g.next.now ∷ g.previous_match.now ∷ g.next_match.now ∷ g.reverse_next.now ∷ g.reverse_match.now ∷ [] in
-    let refusal : ℕ → ℕ = λ n. work_refusal n (map length work) in
-    let taken : refusal c.string_length-n.result ≡ 0 = sym (says_none c.string_length-n.result (map length work) (omega arith) c.any_off.ensures c.if-any_off.false (omega arith)) in
-    let fits : let g = c.args in
-    Fitting c.string_length-n.result (length g.previous.now) (length g.next.now) (length g.previous_match.now) (length g.next_match.now) (length g.reverse_next.now) (length g.reverse_match.now) = fitting _ _ _ _ _ _ _ taken in
-    let y : List ℕ = string_of c.args.wide c.args.letters.now c.args.symbols.now in
-    let long : length y ≡ c.string_length-n.result = sym c.string_length-n.ensures in
-    let s = fits in
-    record { symbols_len = (long, s.few, c.previous-2-1.given ∙ c.previous-1.given ∙ s.previous, c.previous_match-2-1.given ∙ c.previous_match-1.given ∙ s.previous_match); tabled = c.tables_of.ensures; tabled_2 = c.tables_of-2.ensures }
-
-pub shape_of-previous : goal.shape_of-previous
-shape_of-previous c = c.previous-3-1.given ∙ c.previous-2-1.given ∙ c.previous-1.given
-
-pub shape_of-next : goal.shape_of-next
-shape_of-next c = c.next-2-1.given ∙ c.next-1.given
-
-pub shape_of-previous_match : goal.shape_of-previous_match
-shape_of-previous_match c = c.previous_match-3-1.given ∙ c.previous_match-2-1.given ∙ c.previous_match-1.given
-
-pub shape_of-next_match : goal.shape_of-next_match
-shape_of-next_match c = c.next_match-2-1.given ∙ c.next_match-1.given
-
-pub shape_of-reverse_next : goal.shape_of-reverse_next
-shape_of-reverse_next c = c.reverse_next-2-1.given ∙ c.reverse_next-1.given
-
-pub shape_of-reverse_match : goal.shape_of-reverse_match
-shape_of-reverse_match c = c.reverse_match-2-1.given ∙ c.reverse_match-1.given
-
-pub returns : goal.returns
-returns c =
-    let y : List ℕ = string_of c.args.wide c.args.letters.now c.args.symbols.now in
-    let work : List (List ℕ) = let g = c.args in
-    g.previous.now ∷ g.next.now ∷ g.previous_match.now ∷ g.next_match.now ∷ g.reverse_next.now ∷ g.reverse_match.now ∷ [] in
-    let refusal : ℕ → ℕ = λ n. work_refusal n (map length work) in
-    let taken : refusal c.string_length-n.result ≡ 0 = sym (says_none c.string_length-n.result (map length work) (omega arith) c.any_off.ensures c.if-any_off.false (omega arith)) in
-    let fits : let g = c.args in
-    Fitting c.string_length-n.result (length g.previous.now) (length g.next.now) (length g.previous_match.now) (length g.next_match.now) (length g.reverse_next.now) (length g.reverse_match.now) = fitting _ _ _ _ _ _ _ taken in
-    let long : length y ≡ c.string_length-n.result = sym c.string_length-n.ensures in
-    let f = fits in
-    let u = c.collect-count.new in
-    gathered y work (sym (ap refusal (sym long)) ∙ taken) (sym long) {u = lists u.starts u.ends u.periods} c.collect-count.ensures
-    _ (c.next_match-1.given ∙ f.next_match) (c.reverse_next-1.given ∙ f.reverse_next) (c.reverse_match-1.given ∙ f.reverse_match) c.clear_three.ensures (omega arith)
+pub returns-clause-gathered : goal.returns-clause-gathered
+returns-clause-gathered g c = gathered _ _ (sym (length-map c.args.string.now g.S.Letter.rank)) c.in_ok-verdict.ensures c.collect.ensures.number c.collect.ensures.leaves

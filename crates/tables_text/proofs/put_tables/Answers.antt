@@ -3,4 +3,4 @@ use Rattle.tables_text.proofs.Builds.{tables_put}
 use Rattle.tables_text.proofs.put_tables.Goals as goal
 
 pub returns : goal.returns
-returns c = tables_put c.args.letters.now c.build_all-comparisons.ensures c.put_head-at.ensures c.put_lines.ensures
+returns c = tables_put c.args.letters.now c.build_all-comparisons.ensures.built c.put_head-at.ensures c.put_lines.ensures

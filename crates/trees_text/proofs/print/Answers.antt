@@ -2,25 +2,23 @@
 use mathlib.Core.Path.{sym, ◌∙◌}
 use Prim.Native.Nat.{◌≤◌}
 use native.Mathlib.Omega.{arith}
-use lib.ListN.{length}
 use lib.Seq.{length-take-le}
 use Rattle.trees_text.specs.Text.{program_text}
 use Rattle.tree_size.proofs.Input.{size_most}
 use Rattle.trees_text.proofs.print.Goals as goal
 
 pub slice_bounds-tree-end : goal.slice_bounds-tree-end
-slice_bounds-tree-end g c =
-    omega (arith, c.tree_length-bytes.ensures, c.size_in-size.ensures, size_most c.args.input.now, c.tree_room-tree.ensures)
+slice_bounds-tree-end g c = omega (arith, c.tree_length-bytes.ensures, c.size_in-size.ensures, size_most c.args.input.now)
 
 pub slice_bounds-print_lines-end : goal.slice_bounds-print_lines-end
 slice_bounds-print_lines-end g c =
-    let room : c.tree_length-bytes.result ≤ length c.tree_room-tree.result = omega (arith, c.tree_length-bytes.ensures, c.size_in-size.ensures, size_most c.args.input.now, c.tree_room-tree.ensures) in
-    sym (length-take-le c.tree_length-bytes.result c.tree_room-tree.result room)
+    let room : c.tree_length-bytes.result ≤ 25 = omega (arith, c.tree_length-bytes.ensures, c.size_in-size.ensures, size_most c.args.input.now) in
+    sym (length-take-le c.tree_length-bytes.result _ room)
 
 pub print_lines-requires : goal.print_lines-requires
 print_lines-requires g c =
-    let room : c.tree_length-bytes.result ≤ length c.tree_room-tree.result = omega (arith, c.tree_length-bytes.ensures, c.size_in-size.ensures, size_most c.args.input.now, c.tree_room-tree.ensures) in
-    (length-take-le c.tree_length-bytes.result c.tree_room-tree.result room ∙ c.tree_length-bytes.ensures, omega (arith, c.line_room-text.ensures))
+    let room : c.tree_length-bytes.result ≤ 25 = omega (arith, c.tree_length-bytes.ensures, c.size_in-size.ensures, size_most c.args.input.now) in
+    (length-take-le c.tree_length-bytes.result _ room ∙ c.tree_length-bytes.ensures, omega arith)
 
 pub returns : goal.returns
 unfolding program_text

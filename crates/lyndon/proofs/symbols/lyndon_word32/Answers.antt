@@ -1,8 +1,8 @@
 -- `lyndon::symbols::lyndon_word32` meets its contract.
-use mathlib.Core.Path.{refl}
-use native.Mathlib.Omega.{arith}
+use mathlib.Core.Path.{refl, ◌∙◌}
+use Rattle.std.proofs.lemmas.List.{map-id}
 use Rattle.lyndon.proofs.Replying.{word_replied}
 use Rattle.lyndon.proofs.symbols.lyndon_word32.Goals as goal
 
 pub returns : goal.returns
-returns c = word_replied c.word32-part.ensures (omega arith) refl (omega arith) c.part_reply.ensures
+returns c = c.part_reply.ensures ∙ word_replied c.args.symbols.now c.args.position refl c.word.result (rw (map-id c.args.symbols.now) at c.word.ensures)

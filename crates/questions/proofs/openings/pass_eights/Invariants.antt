@@ -1,11 +1,7 @@
--- The loops of `questions::pass_eights`.
-use Prim.Native.Nat.{◌-◌}
-use lib.ListN.{length}
+-- The loops of `questions::openings::pass_eights`.
+use Prim.Native.Nat.{◌*◌}
 use Rattle.questions.proofs.Counting.{Passing}
 use Rattle.questions.proofs.openings.pass_eights.Given as goal
 
-abbrev pub invariant-loop-byte : goal.invariant-loop-byte
-invariant-loop-byte l = Passing l.tree l.i l.byte l.left
-
-abbrev pub decreases-loop-byte : goal.decreases-loop-byte
-decreases-loop-byte l = length l.tree - l.byte
+abbrev pub invariant-loop-k : goal.invariant-loop-k
+invariant-loop-k l = Passing l.tree l.i (8 * l.k) l.left

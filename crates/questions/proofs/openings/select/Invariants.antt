@@ -1,7 +1,7 @@
--- The loops of `questions::select`.
+-- The loops of `questions::openings::select`.
 use mathlib.Core.Path.{◌≡◌}
 use mathlib.Core.List.{List}
-use Prim.Native.Nat.{ℕ, ◌+◌, ◌-◌, ◌*◌, ◌≤◌}
+use Prim.Native.Nat.{ℕ, ◌+◌, ◌*◌, ◌≤◌}
 use Rattle.refusal.specs.Conditions.{openings}
 use Rattle.questions.proofs.openings.select.Given as goal
 
@@ -11,7 +11,4 @@ pub record Passing (t : List ℕ) (i j left m : ℕ) : Type 0 where
   pub count : openings t (8 * j + m) + left ≡ i
 
 abbrev pub invariant-loop-m : goal.invariant-loop-m
-invariant-loop-m l = Passing l.tree l.i l.j l.left l.m
-
-abbrev pub decreases-loop-m : goal.decreases-loop-m
-decreases-loop-m l = 8 - l.m
+invariant-loop-m l = Passing l.tree l.i l.place.byte l.left l.m

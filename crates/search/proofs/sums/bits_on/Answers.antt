@@ -1,28 +1,14 @@
 -- `search::sums::bits_on` meets its contract.
-use mathlib.Core.Path.{sym, ◌∙◌}
+use mathlib.Core.Path.{refl, sym, ◌∙◌}
 use native.Mathlib.Omega.{arith}
-use lib.Signed.{mag}
 use Rattle.refusal.specs.Conditions.{bit_of}
-use Rattle.search.proofs.Signed.{turned_small}
-use Rattle.search.proofs.On.{on_start, on_fell, on_going, on_ended}
+use Rattle.search.proofs.On.{on_fell, on_going}
 use Rattle.search.proofs.sums.bits_on.Goals as goal
-
-pub loop-s-init : goal.loop-s-init
-loop-s-init c = on_start c.requires
-
-pub turned-s-requires : goal.turned-s-requires
-turned-s-requires c = (c.loop-s.invariant.ready.low, omega arith)
-
-pub fell-requires : goal.fell-requires
-fell-requires c = let s = c.loop-s.s in turned_small c.bit.result (mag s.sum) (omega arith) c.turned-s.ensures.1
 
 pub returns-then-fell : goal.returns-then-fell
 unfolding bit_of
-returns-then-fell c = on_fell c.loop-s.invariant c.loop-s-test.true c.bit.ensures c.turned-s.ensures.0 c.turned-s.ensures.1 (sym c.fell.ensures ∙ c.if-fell.true)
+returns-then-fell c = on_fell c.loop-k.invariant (omega arith) c.bit.ensures refl c.turned-sum.ensures (sym c.fell.ensures ∙ c.if-fell.true)
 
-pub loop-s-preserved : goal.loop-s-preserved
+pub loop-k-preserved : goal.loop-k-preserved
 unfolding bit_of
-loop-s-preserved c = on_going c.loop-s.invariant c.loop-s-test.true c.bit.ensures c.turned-s.ensures.0 c.turned-s.ensures.1 (sym c.fell.ensures ∙ c.if-fell.false)
-
-pub returns : goal.returns
-returns c = on_ended c.loop-s.invariant (omega arith)
+loop-k-preserved c = on_going c.loop-k.invariant (omega arith) c.bit.ensures refl c.turned-sum.ensures (sym c.fell.ensures ∙ c.if-fell.false)

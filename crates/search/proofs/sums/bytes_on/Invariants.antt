@@ -1,10 +1,10 @@
--- The loops of `search::bytes_on`.
-use Prim.Native.Nat.{◌-◌, ◌*◌}
+-- The loops of `search::sums::bytes_on`.
+use Prim.Native.Nat.{◌*◌, ◌-◌}
 use Rattle.search.specs.Steps.{GoingOn}
 use Rattle.search.proofs.sums.bytes_on.Given as goal
 
-abbrev pub invariant-loop-s : goal.invariant-loop-s
-invariant-loop-s l = GoingOn l.tree (8 * l.initial.s.j) (8 * l.stop) l.initial.s.sum (8 * l.s.j) l.s.sum
+abbrev pub invariant-loop-j : goal.invariant-loop-j
+invariant-loop-j l = GoingOn l.tree (8 * l.first) (8 * l.stop) l.initial.sum.0 (8 * l.j) l.sum.0
 
-abbrev pub decreases-loop-s : goal.decreases-loop-s
-decreases-loop-s l = l.stop - l.s.j
+abbrev pub decreases-loop-j : goal.decreases-loop-j
+decreases-loop-j l = l.stop - l.j

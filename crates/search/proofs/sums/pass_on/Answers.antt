@@ -1,56 +1,18 @@
 -- `search::sums::pass_on` meets its contract.
-use mathlib.Core.Path.{◌≡◌, sym, ap, ◌∙◌}
-use Prim.Native.Nat.{◌%◌, ◌≤◌, ◌<◌}
+use mathlib.Core.Path.{sym, ◌∙◌}
+use Prim.Native.Nat.{◌%◌}
 use native.Mathlib.Omega.{arith}
-use lib.IntN.{◌+ℤ◌}
-use lib.Signed.{mag}
-use Rattle.excess.specs.Excess.{half_excess}
 use Rattle.search.proofs.Signed.{end_small}
-use Rattle.search.proofs.On.{on_start, byte_going}
+use Rattle.search.proofs.On.{byte_going}
 use Rattle.search.proofs.sums.pass_on.Goals as goal
 
-pub loop-s-init : goal.loop-s-init
-loop-s-init c = on_start c.requires.0
+pub falls_in-requires-in-loop-j : goal.falls_in-requires-in-loop-j
+falls_in-requires-in-loop-j c = (omega (arith, end_small c.loop-j.sum.0 {bound = 2000000} (omega arith) (c.from-byte.result % 16) c.at_end-middle.ensures), omega arith)
 
-pub falls_in-requires : goal.falls_in-requires
-falls_in-requires c =
-    let sum_small : mag c.loop-s.s.sum ≤ 2000000 = omega arith in
-    (omega (arith, sum_small), omega arith, c.requires.1)
+pub at_end-sum-requires : goal.at_end-sum-requires
+at_end-sum-requires c = (omega (arith, end_small c.loop-j.sum.0 {bound = 2000000} (omega arith) (c.from-byte.result % 16) c.at_end-middle.ensures), omega arith)
 
-pub returns-then-falls_in : goal.returns-then-falls_in
-returns-then-falls_in c = c.loop-s.invariant
-
-pub at_end-middle-requires : goal.at_end-middle-requires
-at_end-middle-requires c =
-    let byte_small : c.wide-byte.result < 256 = omega (arith, c.wide-byte.ensures, c.shared_slice_known-in-loop-s-1.given c.loop-s.s.j) in
-    let sum_small : mag c.loop-s.s.sum ≤ 2000000 = omega arith in
-    (omega (arith, sum_small), omega (arith, byte_small), c.requires.2)
-
-pub falls_in-requires-in-loop-s : goal.falls_in-requires-in-loop-s
-falls_in-requires-in-loop-s c =
-    let byte_small : c.wide-byte.result < 256 = omega (arith, c.wide-byte.ensures, c.shared_slice_known-in-loop-s-1.given c.loop-s.s.j) in
-    let middle_is : c.at_end-middle.result.sum ≡ c.loop-s.s.sum +ℤ half_excess (c.wide-byte.result % 16) = c.at_end-middle.ensures.1 ∙ ap (λ h. c.loop-s.s.sum +ℤ half_excess h) (omega arith) in
-    let sum_small : mag c.loop-s.s.sum ≤ 2000000 = omega arith in
-    let middle_small : mag c.at_end-middle.result.sum ≤ 2000013 = end_small c.loop-s.s.sum sum_small (c.wide-byte.result % 16) middle_is in
-    (omega (arith, middle_small), omega (arith, byte_small), c.requires.1)
-
-pub returns-then-falls_in-2 : goal.returns-then-falls_in-2
-returns-then-falls_in-2 c = c.loop-s.invariant
-
-pub at_end-s-requires : goal.at_end-s-requires
-at_end-s-requires c =
-    let byte_small : c.wide-byte.result < 256 = omega (arith, c.wide-byte.ensures, c.shared_slice_known-in-loop-s-1.given c.loop-s.s.j) in
-    let middle_is : c.at_end-middle.result.sum ≡ c.loop-s.s.sum +ℤ half_excess (c.wide-byte.result % 16) = c.at_end-middle.ensures.1 ∙ ap (λ h. c.loop-s.s.sum +ℤ half_excess h) (omega arith) in
-    let sum_small : mag c.loop-s.s.sum ≤ 2000000 = omega arith in
-    let middle_small : mag c.at_end-middle.result.sum ≤ 2000013 = end_small c.loop-s.s.sum sum_small (c.wide-byte.result % 16) middle_is in
-    (omega (arith, middle_small), omega (arith, byte_small), c.requires.2)
-
-pub loop-s-preserved : goal.loop-s-preserved
-loop-s-preserved c =
-    let middle_is : c.at_end-middle.result.sum ≡ c.loop-s.s.sum +ℤ half_excess (c.wide-byte.result % 16) = c.at_end-middle.ensures.1 ∙ ap (λ h. c.loop-s.s.sum +ℤ half_excess h) (omega arith) in
-    rw c.at_end-s.ensures.0
-    (byte_going c.loop-s.invariant c.loop-s-test.true c.wide-byte.ensures (sym c.falls_in.ensures ∙ c.if-falls_in.false) middle_is
-    (sym c.falls_in-in-loop-s.ensures ∙ c.if-falls_in-2.false) (c.at_end-s.ensures.1 ∙ ap (λ h. c.at_end-middle.result.sum +ℤ half_excess h) (omega arith)))
-
-pub returns : goal.returns
-returns c = c.loop-s.invariant
+pub loop-j-preserved : goal.loop-j-preserved
+loop-j-preserved c =
+    byte_going c.loop-j.invariant (omega arith) c.from-byte.ensures (sym c.falls_in.ensures ∙ c.if-falls_in.false) c.at_end-middle.ensures
+    (sym c.falls_in-in-loop-j.ensures ∙ c.if-falls_in-2.false) c.at_end-sum.ensures

@@ -1,0 +1,17 @@
+-- `search::sums::Sum::at_end` meets its contract.
+use mathlib.Core.Path.{ap, ◌∙◌}
+use native.Mathlib.Omega.{arith}
+use mir.Syntax.{w32}
+use mir.Val.{to_z, of_z}
+use Rattle.search.proofs.Signed.{back, fits, excess_near, excess_entry, end_is, end_fits}
+use Rattle.search.proofs.sums.Sum.at_end.Goals as goal
+
+pub overflow_cast-result : goal.overflow_cast-result
+overflow_cast-result c = rw (excess_entry c.args.half c.requires.1 c.args.halves.now.sums_known) (fits (omega (arith, excess_near c.args.half)))
+
+pub overflow_add-result : goal.overflow_add-result
+overflow_add-result c = rw (end_is c.args.self.0 c.requires.0 c.args.half c.requires.1 c.args.halves.now.sums_known) (fits (end_fits c.args.self.0 c.requires.0 c.args.half c.requires.1))
+
+pub returns : goal.returns
+returns c =
+    ap (λ z. to_z w32 (of_z w32 z)) (end_is c.args.self.0 c.requires.0 c.args.half c.requires.1 c.args.halves.now.sums_known) ∙ back _ (end_fits c.args.self.0 c.requires.0 c.args.half c.requires.1)
