@@ -7,16 +7,19 @@ use Prim.Native.Nat.{ℕ, ◌+◌, ◌-◌, ◌≤◌, ◌<◌}
 use native.Mathlib.Omega.{arith}
 use lib.ListN.{length, take, drop, set, length-set, length-drop, take-append-drop}
 use lib.Dec.{eqb}
-use lib.Seq.{take_all, take_at, get_or-set_same, get_or-set_other}
+use lib.Seq.{take_all, take_at, take-take, drop-drop, get_or-set_same, get_or-set_other}
 use Rattle.std.specs.List.{starts_with}
+use Rattle.std.proofs.lemmas.List.{drop-take}
 use Rattle.std.proofs.lemmas.Slice.Eq.{starts_is}
 use Rattle.std.proofs.lemmas.Bool.Decides.{Decides-eqb}
 use Rattle.cabinet.specs.declared.Mark.{Mark}
 use Rattle.cabinet.specs.File.{mark_bytes}
 use Rattle.cabinet.proofs.Marks.{mark_length}
 use Rattle.suffix.specs.Search.{sum_below}
+use Rattle.suffix.specs.Lyndon.{part}
 use Rattle.suffix.specs.Tree.{tree_length}
 use Rattle.suffix.proofs.Search.{tabulate_is}
+use Rattle.cabinet.specs.LittleEndian.{value_of, number_at}
 use Rattle.cabinet.specs.File.{contents_end, count_in, count_of, place_of, letters_of, end_before, counts_of}
 use Rattle.cabinet.specs.Refusals.{wrong_contents, file_flaw, write_refusal}
 use Rattle.cabinet.proofs.Contents.{bytes_more}
@@ -68,11 +71,8 @@ module _ (file : List ℕ) where
       right_end e = not_wrong file (record { whole = S.whole; places = λ j w. S.places j (omega arith); ends = sym e ∙ end_of; short = λ j w. S.short j (omega arith) })
 
     module _ (h : k < count_of file) where
-      pub wrong_place : place_of file k ≢ end → wrong_contents file ≡ true
-      wrong_place q = wrong file (λ R. q (R.places k h ∙ sym S.ends))
-
-      pub wrong_letters : 1000000 < letters_of file k → wrong_contents file ≡ true
-      wrong_letters q = wrong file (λ R. omega (arith, R.short k h))
+      pub wrong_entry : {place n : ℕ} → place ≡ place_of file k → n ≡ letters_of file k → (place ≡ end → n ≤ 1000000 → ⊥) → wrong_contents file ≡ true
+      wrong_entry p z q = wrong file (λ R. q (p ∙ R.places k h ∙ sym S.ends) (omega (arith, z, R.short k h)))
 
 -- the letter counts of k entries are in `counts`, which has room for all
 pub record ListedTo (file counts : List ℕ) (k : ℕ) : Type 0 where
@@ -96,8 +96,36 @@ module _ (file counts : List ℕ) where
     pub all_listed : k ≡ count_of file → counts ≡ counts_of file
     all_listed c = tabulate_is (letters_of file) counts (count_of file) L.size (λ j h. L.listed j (omega arith))
 
+-- what is left of the contents: all of them, and those behind entry k
+pub all_left : (file : List ℕ) → take (length file - 8) (drop 8 file) ≡ drop (contents_end 0) file
+all_left file = take_all (length file - 8) (drop 8 file) (omega (arith, length-drop 8 file))
+
+module _ (file : List ℕ) (k : ℕ) {rest : List ℕ} (e : rest ≡ drop (contents_end k) file) where
+  pub is_left : contents_end (k + 1) ≤ length file → 8 ≤ length rest
+  is_left h = rw e (omega (arith, h, length-drop (contents_end k) file))
+
+  pub left_then : {behind : List ℕ} → behind ≡ drop 8 rest → behind ≡ drop (contents_end (k + 1)) file
+  left_then b = let z : contents_end (k + 1) ≡ contents_end k + 8 = omega arith in rw (b, e, z) (drop-drop 8 (contents_end k) file)
+
+  module _ {entry : List ℕ} (z : entry ≡ take 8 rest) where
+    in_entry : (a m : ℕ) → a + m ≡ 8 → 4 ≤ m → number_at entry a ≡ number_at file (contents_end k + a)
+    unfolding number_at part
+    in_entry a m s h =
+        ap value_of
+        (ap (λ l. take 4 (drop a l)) (z ∙ ap (λ n. take n rest) (sym s))
+        ∙ ap (take 4) (drop-take a m rest)
+        ∙ take-take 4 m (drop a rest) h
+        ∙ ap (λ l. take 4 (drop a l)) e
+        ∙ ap (take 4) (drop-drop a (contents_end k) file))
+
+    pub place_split : number_at entry 0 ≡ place_of file k
+    place_split = in_entry 0 8 (omega arith) (omega arith) ∙ ap (number_at file) (omega arith)
+
+    pub letters_split : number_at entry 4 ≡ letters_of file k
+    letters_split = in_entry 4 4 (omega arith) (omega arith) ∙ ap (number_at file) (omega arith)
+
 -- what the reader finds in contents, entry by entry
-pub ruleset contents = (right_none, too_short, right_more, wrong_end, right_end, wrong_place, wrong_letters, listed_none, listed_more, all_listed)
+pub ruleset contents = (right_none, too_short, right_more, wrong_end, right_end, listed_none, listed_more, all_listed, all_left, is_left)
 
 -- the verdict on the letter counts and the bodies apart from the file
 pub read_apart : (file : List ℕ) → count_of file ≤ 64 → Right file → {counts : List ℕ} {at size : ℕ} → counts ≡ counts_of file → at ≡ contents_end (count_of file) → size ≡ length file - at

@@ -19,9 +19,7 @@ fn number_at(file: &[u8], at: usize) -> u32
     requires { at + 4 ≤ length file.now }
     ensures { result ≡ number_at file.now at }
 {
-    let mut bytes = [0; 4];
-    bytes.copy_from_slice(&file[at..at + 4]);
-    u32::from_le_bytes(bytes)
+    u32::from_le_bytes(file[at..at + 4].try_into().unwrap())
 }
 
 // Which mark the file has; none where it is under 8 bytes or has neither.
@@ -51,15 +49,17 @@ fn read_counts(file: &[u8], counts: &mut [u32]) -> Result<(), Refusal>
     if file.len() < end {
         return Err(Refusal::WrongContents);
     }
-    // by index: of a slice that `iter_mut` went over a proof knows the length alone
-    for k in 0..counts.len() {
-        let place = number_at(file, 8 + 8 * k) as usize;
-        let n = number_at(file, 12 + 8 * k);
+    let mut rest = &file[8..];
+    for count in counts.iter_mut() {
+        let (entry, behind) = rest.split_at(8);
+        let place = number_at(entry, 0) as usize;
+        let n = number_at(entry, 4);
         if place != end || n > 1000000 {
             return Err(Refusal::WrongContents);
         }
-        counts[k] = n;
+        *count = n;
         end += tree_length(n as usize);
+        rest = behind;
     }
     if end != file.len() {
         return Err(Refusal::WrongContents);

@@ -24,7 +24,7 @@ pub fn version() -> u32
 }
 
 #[repr(C)]
-#[derive(Clone, Copy)]
+#[derive(Clone, Copy, Default)]
 pub struct BuildReply {
     pub refusal: u32,
     pub finished: u32,
@@ -57,11 +57,7 @@ impl From<Result<Built, Refusal>> for BuildReply {
             },
             Err(refusal) => BuildReply {
                 refusal: refusal.into(),
-                finished: 0,
-                rows: 0,
-                equal: 0,
-                unequal: 0,
-                reach: 0,
+                ..Default::default()
             },
         }
     }
@@ -118,7 +114,7 @@ impl From<Result<Step, Refusal>> for NextReply {
 }
 
 #[repr(C)]
-#[derive(Clone, Copy)]
+#[derive(Clone, Copy, Default)]
 pub struct CheckReply {
     pub refusal: u32,
     pub right: u32,
@@ -142,15 +138,14 @@ impl From<Result<Option<usize>, Refusal>> for CheckReply {
             },
             Err(refusal) => CheckReply {
                 refusal: refusal.into(),
-                right: 0,
-                position: 0,
+                ..Default::default()
             },
         }
     }
 }
 
 #[repr(C)]
-#[derive(Clone, Copy)]
+#[derive(Clone, Copy, Default)]
 pub struct PartReply {
     pub refusal: u32,
     pub start: usize,
@@ -169,14 +164,13 @@ pub fn part_reply<S>(position: usize, part: Result<&[S], Refusal>) -> PartReply
         },
         Err(refusal) => PartReply {
             refusal: refusal.into(),
-            start: 0,
-            length: 0,
+            ..Default::default()
         },
     }
 }
 
 #[repr(C)]
-#[derive(Clone, Copy)]
+#[derive(Clone, Copy, Default)]
 pub struct CabinetReply {
     pub refusal: u32,
     pub mark: u32,
@@ -199,10 +193,7 @@ impl From<Result<Entry<'_>, Refusal>> for CabinetReply {
             },
             Err(refusal) => CabinetReply {
                 refusal: refusal.into(),
-                mark: 0,
-                letters: 0,
-                start: 0,
-                length: 0,
+                ..Default::default()
             },
         }
     }

@@ -5,7 +5,7 @@ use mathlib.Core.List.{List}
 use Prim.Native.Nat.{ℕ, ◌+◌, ◌-◌, ◌≤◌, ◌<◌}
 use native.Mathlib.Omega.{arith}
 use lib.ListN.{length}
-use Rattle.std.specs.Prelude.{Option, Some, None, is_some, unwrap_or}
+use Rattle.std.specs.Prelude.{Option, Some, None, is_some, unwrap_or, MatchOption}
 use Rattle.std.specs.Option.{option_map}
 use Rattle.repeats.specs.Runs.{Run}
 use Rattle.repeats.specs.Roots.{left_of, accepts, reports}
@@ -42,14 +42,9 @@ module _ (y : List ℕ) (reverse : Bool) (i j m : ℕ) where
 
 -- place i reports by its next under the order, else by that under the reverse
 module _ (y : List ℕ) (i j m k l : ℕ) where
-  pub first_reported : (r : Option declared.Run) → option_map run_of r ≡ accepted y false i j m → is_some r ≡ true → run_in r ≡ report_of y i j m k l
+  pub judged : (first r : Option declared.Run) → option_map run_of first ≡ accepted y false i j m → {P : Type 0}
+      → MatchOption first P (λ x. r ≡ Some x) → (P → option_map run_of r ≡ accepted y true i k l) → run_in r ≡ report_of y i j m k l
   unfolding report_of
-  first_reported None e h = absurd (true≢false (sym h))
-  first_reported (Some r) e h = let a = is_accepted y false i j m e in rw (a.0, report_of) a.1
-
-  pub second_reported : (first r : Option declared.Run) → option_map run_of first ≡ accepted y false i j m → is_some first ≡ false
-      → option_map run_of r ≡ accepted y true i k l → run_in r ≡ report_of y i j m k l
-  unfolding report_of
-  second_reported (Some r) s d g e = absurd (true≢false g)
-  second_reported None None d g e = rw (not_accepted y false i j m d, not_accepted y true i k l e, report_of)
-  second_reported None (Some r) d g e = let a = is_accepted y true i k l e in rw (not_accepted y false i j m d, a.0, report_of) a.1
+  judged None None d e f = rw (not_accepted y false i j m d, not_accepted y true i k l (f e), report_of)
+  judged None (Some r) d e f = let a = is_accepted y true i k l (f e) in rw (not_accepted y false i j m d, a.0, report_of) a.1
+  judged (Some q) r d e f = let a = is_accepted y false i j m d in rw (e, a.0, report_of) a.1

@@ -79,11 +79,7 @@ fn judged_report<S: Letter>(string: &[S], i: usize, next: Next, reverse_next: Ne
     requires reverse_next { Within (length string.now) i reverse_next.position reverse_next.matched }
     ensures { run_in result ≡ report_of (map S.rank string.now) i next.position next.matched reverse_next.position reverse_next.matched }
 {
-    let run = accepted(string, false, i, next);
-    if run.is_some() {
-        return run;
-    }
-    accepted(string, true, i, reverse_next)
+    accepted(string, false, i, next).or_else(|| accepted(string, true, i, reverse_next))
 }
 
 // What place i reports, by its next under the order and under the reverse of it. No run where one of them does not lie in the string, or the

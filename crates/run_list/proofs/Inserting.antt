@@ -1,7 +1,7 @@
 -- A run is put into three tables, as the code does it.
 use mathlib.Core.Path.{◌≡◌, refl, sym, ap, ◌∙◌}
 use mathlib.Core.Logic.{◌≢◌}
-use mathlib.Core.Bool.{true, false, not, ◌&&◌}
+use mathlib.Core.Bool.{Bool, true, false, not, ◌&&◌}
 use Prim.Native.Nat.{ℕ, zero, suc, ◌+◌, ◌-◌, ◌≤◌, ◌<◌}
 use native.Mathlib.Omega.{arith}
 use native.Mathlib.Numerals.{add-one}
@@ -38,18 +38,21 @@ pub record Placing (j : ℕ) (r : Run) (was is : RunList) : Type 0 where
   pub goes_on : placed j (tables is) r ≡ placed was.count (tables was) r
 
 module _ {j : ℕ} {r : Run} {was is : RunList} (P : Placing j r was is) where
-  pub placing_more : 0 < j → {q : Run} → q ≡ entry_in (tables is) (j - 1) → before r q ≡ true
-      → {to : RunList} → SameTables is to → to.count ≡ is.count → tables to ≡ stored (tables is) j q → Placing (j - 1) r was to
-  placing_more h {q} e b {to} S c w =
-      record {
-        same = same_after P.same S;
-        count = c ∙ P.count;
-        most = omega (arith, P.most);
-        goes_on = ap (λ t. placed (j - 1) t r) (w ∙ ap (stored (tables is) j) e) ∙ sym (placed_below r (tables is) j h (rw e at b)) ∙ P.goes_on;
-      }
+  module _ (h : 0 < j) {q : Run} (e : q ≡ entry_in (tables is) (j - 1)) {b : Bool} (d : b ≡ before r q) {k : ℕ} where
+    pub placing_more : b ≡ true → {to : RunList} → SameTables is to → to.count ≡ is.count → tables to ≡ stored (tables is) k q → k ≡ j → Placing (j - 1) r was to
+    placing_more y {to} S c w z =
+        record {
+          same = same_after P.same S;
+          count = c ∙ P.count;
+          most = omega (arith, P.most);
+          goes_on = ap (λ t. placed (j - 1) t r) (rw z at w ∙ ap (stored (tables is) j) e) ∙ sym (placed_below r (tables is) j h (rw e at (sym d ∙ y))) ∙ P.goes_on;
+        }
 
-  pub placing_done : (0 < j → before r (entry_in (tables is) (j - 1)) ≡ false) → stored (tables is) j r ≡ placed was.count (tables was) r
-  placing_done e = sym (placed_here r (tables is) j e) ∙ P.goes_on
+    pub placing_done : b ≡ false → {t : Lists} → t ≡ stored (tables is) k r → k ≡ j → t ≡ placed was.count (tables was) r
+    placing_done n w z = rw z at w ∙ sym (placed_here r (tables is) j (λ h. rw e at (sym d ∙ n))) ∙ P.goes_on
+
+  pub placing_first : {k : ℕ} {t : Lists} → t ≡ stored (tables is) k r → k ≡ j → j ≡ 0 → t ≡ placed was.count (tables was) r
+  placing_first w z f = rw z at w ∙ sym (placed_here r (tables is) j (λ h. absurd (omega arith))) ∙ P.goes_on
 
 -- ---- whether it is taken
 

@@ -76,14 +76,15 @@ impl RunList<'_> {
         ensures count { self.new.count ≡ self.old.count }
         ensures tables { tables self.new ≡ placed self.old.count (tables self.old) (run_of run) }
     {
-        let mut j = self.count;
-        // one pass over three tables, in which entries move while their place is looked for: no method of a slice does that
-        while j > 0 && run.comes_before(self.entry(j - 1)) {
-            let passed = self.entry(j - 1);
-            self.store(j, passed);
-            j -= 1;
+        for j in (0..self.count).rev() {
+            let passed = self.entry(j);
+            if !run.comes_before(passed) {
+                self.store(j + 1, run);
+                return;
+            }
+            self.store(j + 1, passed);
         }
-        self.store(j, run);
+        self.store(0, run);
     }
 
     // Puts a run, if it is one, where it belongs. Where a table has no entry for one more, nothing is changed.

@@ -5,6 +5,3 @@ use Rattle.run_list.proofs.RunList.place.Given as goal
 
 abbrev pub invariant-loop-j : goal.invariant-loop-j
 invariant-loop-j l = Placing l.j (run_of l.run) l.initial.self l.self
-
-abbrev pub decreases-loop-j : goal.decreases-loop-j
-decreases-loop-j l = l.j
