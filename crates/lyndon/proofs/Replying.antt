@@ -23,4 +23,4 @@ word_replied {letters = letters} y i n (Ok part) e =
     rw (eq-eqb (word_refusal (length y) i) 0 (sym z), word_reply, part_reply, ap length e.part ∙ taken_length letters.now y i n (sym e.refusal))
 word_replied y i n (Err k) e =
     let z : number_of k ≡ word_refusal (length y) i = e.refusal ∙ rw n in
-    rw (ne_eqb (word_refusal (length y) i) 0 (λ q. omega (arith, positive k, z)), word_reply, part_reply, ← z)
+    rw (ne_eqb (word_refusal (length y) i) 0 (λ q. omega (arith, positive k, z)), ne_eqb (number_of k) 0 (λ q. omega (arith, positive k)), word_reply, part_reply, ← z)

@@ -18,7 +18,7 @@ ghost use Rattle.replies.specs.Version.{interface_version};
 
 use entries::Tables;
 use refusal::verdict_number;
-use replies::{BuildReply, CabinetReply, CheckReply, NextReply, PartReply, Reply, part_reply};
+use replies::{BuildReply, CabinetReply, CheckReply, NextReply, PartReply, Reply};
 use roots::WorkTables;
 use runs::Lists;
 
@@ -111,7 +111,7 @@ pub extern "C" fn lyndon_next_tree(size: usize, tree: &mut [u8]) -> NextReply
 pub extern "C" fn lyndon_word(letters: &[u8], position: usize) -> PartReply
     ensures { result ≡ word_reply (ranks letters.now) position }
 {
-    part_reply(position, word::word(letters, position))
+    PartReply::of(position, word::word(letters, position))
 }
 
 #[unsafe(no_mangle)]

@@ -7,7 +7,7 @@ ghost use Rattle.runs.specs.Reported.{work_of, Reported};
 ghost use Rattle.replies.specs.Replies.{Replied, build_reply, reply, check_reply, word_reply};
 
 use entries::Tables;
-use replies::{BuildReply, CheckReply, PartReply, Reply, part_reply};
+use replies::{BuildReply, CheckReply, PartReply, Reply};
 use roots::WorkTables;
 use runs::Lists;
 
@@ -40,7 +40,7 @@ pub extern "C" fn lyndon_build32(
 pub extern "C" fn lyndon_word32(symbols: &[u32], position: usize) -> PartReply
     ensures { result ≡ word_reply symbols.now position }
 {
-    part_reply(position, word::word(symbols, position))
+    PartReply::of(position, word::word(symbols, position))
 }
 
 #[unsafe(no_mangle)]

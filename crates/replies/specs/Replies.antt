@@ -61,8 +61,8 @@ word_reply y position = part_reply (word_refusal (length y) position) position (
 
 -- what is given of a part as a function hands it on, and of an entry: of a refusal its number alone
 abbrev pub part_of : {S : Type 0} → ℕ → Result (Bor (List S)) Refusal → PartReply
-part_of position (Ok part) = record { refusal = 0; start = position; length = length part.now }
-part_of position (Err refusal) = record { refusal = number_of refusal; start = 0; length = 0 }
+part_of position (Ok part) = part_reply 0 position (length part.now)
+part_of position (Err refusal) = part_reply (number_of refusal) position 0
 
 abbrev pub entry_reply : Result Entry Refusal → CabinetReply
 entry_reply (Ok entry) = record { refusal = 0; mark = mark_number entry.mark; letters = entry.letters; start = entry.place; length = length entry.body.now }

@@ -7,7 +7,7 @@ ghost use Rattle.checker.specs.Checked.{finding_of};
 ghost use Rattle.refusal.specs.Answers.{figures_of};
 ghost use Rattle.small_trees.specs.Answers.{going_of};
 ghost use Rattle.replies.specs.Version.{interface_version};
-ghost use Rattle.replies.specs.Replies.{build_reply, reply, next_reply, check_reply, part_of, entry_reply};
+ghost use Rattle.replies.specs.Replies.{build_reply, reply, next_reply, check_reply, part_reply, part_of, entry_reply};
 
 use cabinet_reader::Entry;
 use outcome::Built;
@@ -152,20 +152,32 @@ pub struct PartReply {
     pub length: usize,
 }
 
-// A part of a string that starts at the position, unless it is refused.
-pub fn part_reply<S>(position: usize, part: Result<&[S], Refusal>) -> PartReply
-    ensures { result ≡ part_of position part.entry }
+// A part of a string that starts at the position, unless it is refused. The number may be any, so it is not an enum.
+pub fn part_reply(refused: u32, position: usize, length: usize) -> PartReply
+    ensures { result ≡ part_reply refused position length }
 {
-    match part {
-        Ok(part) => PartReply {
-            refusal: 0,
-            start: position,
-            length: part.len(),
-        },
-        Err(refusal) => PartReply {
-            refusal: refusal.into(),
+    if refused != 0 {
+        return PartReply {
+            refusal: refused,
             ..Default::default()
-        },
+        };
+    }
+    PartReply {
+        refusal: 0,
+        start: position,
+        length,
+    }
+}
+
+impl PartReply {
+    // The reply to a question for a part that starts at the position.
+    pub fn of<S>(position: usize, part: Result<&[S], Refusal>) -> PartReply
+        ensures { result ≡ part_of position part.entry }
+    {
+        match part {
+            Ok(part) => part_reply(0, position, part.len()),
+            Err(refusal) => part_reply(refusal.into(), position, 0),
+        }
     }
 }
 

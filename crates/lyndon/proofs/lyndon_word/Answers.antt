@@ -6,4 +6,4 @@ use Rattle.lyndon.proofs.Replying.{word_replied}
 use Rattle.lyndon.proofs.lyndon_word.Goals as goal
 
 pub returns : goal.returns
-returns c = c.part_reply.ensures ∙ word_replied (ranks c.args.letters.now) c.args.position (ranks_length c.args.letters.now) c.word.result c.word.ensures
+returns c = c.of.ensures ∙ word_replied (ranks c.args.letters.now) c.args.position (ranks_length c.args.letters.now) c.word.result c.word.ensures

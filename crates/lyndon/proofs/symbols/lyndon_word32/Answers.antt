@@ -5,4 +5,4 @@ use Rattle.lyndon.proofs.Replying.{word_replied}
 use Rattle.lyndon.proofs.symbols.lyndon_word32.Goals as goal
 
 pub returns : goal.returns
-returns c = c.part_reply.ensures ∙ word_replied c.args.symbols.now c.args.position refl c.word.result (rw (map-id c.args.symbols.now) at c.word.ensures)
+returns c = c.of.ensures ∙ word_replied c.args.symbols.now c.args.position refl c.word.result (rw (map-id c.args.symbols.now) at c.word.ensures)
