@@ -1,11 +1,13 @@
 -- Ranks in their order, and in the reverse one; strings of letters and of symbols.
-use mathlib.Core.Path.{◌≡◌, refl}
+use mathlib.Core.Path.{◌≡◌, refl, sym, ap, ◌∙◌}
 use mathlib.Core.Logic.{inl, inr}
 use mathlib.Core.Bool.{Bool, true, false}
 use mathlib.Core.List.{List, [], ◌∷◌}
 use Prim.Native.Nat.{ℕ, zero, suc, ◌+◌, ◌-◌, ◌≤◌, ◌<◌}
 use native.Mathlib.Omega.{arith}
 use lib.ListN.{length, get_or, drop, length-map}
+use Rattle.std.specs.Prelude.{map}
+use Rattle.std.proofs.lemmas.List.{get_or-map}
 use borrow.Author.Tests.{le-leb, lt-leb}
 use Rattle.suffix.proofs.Cases.{Tri, lt, eq, gt, tri}
 use Rattle.ranks.specs.Ranks.{rank, ranks, greatest_rank, oriented_from, oriented, oriented_rank}
@@ -61,6 +63,10 @@ pub ranks_most : (letters : List ℕ) → ((i : ℕ) → i < length letters → 
 ranks_most letters bytes i h =
     let g : i < length letters = omega (arith, ranks_length letters) in
     omega (arith, ranks_entry letters i g, rank_byte (get_or letters i 0) (bytes i g))
+
+-- the rank of the letter at a place of a string
+pub rank_here : {S : Type 0} (rank : S → ℕ) (string : List S) (i : ℕ) {letter : S} → letter ≡ get_or string i letter → i < length string → rank letter ≡ get_or (map rank string) i 0
+rank_here rank string i {letter = letter} e h = ap rank e ∙ sym (get_or-map rank string i letter 0 h)
 
 -- the ranks of a suffix
 pub ranks_drop : (i : ℕ) (letters : List ℕ) → ranks (drop i letters) ≡ drop i (ranks letters)

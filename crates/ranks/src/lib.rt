@@ -1,7 +1,7 @@
 // Ranks, the numbers by which letters and symbols compare.
 #![tactic(auto)]
 
-ghost use Rattle.std.specs.Prelude.{◌≡◌, ◌<◌, ℕ, eqb, length, get_or, map};
+ghost use Rattle.std.specs.Prelude.{◌≡◌, ℕ, eqb, map};
 ghost use Rattle.ranks.specs.Ranks.{rank, symbol_rank, oriented_rank, AllFit};
 
 // What a string is of: letters of one byte, or symbols of 32 bits.
@@ -57,22 +57,6 @@ impl Letter for u32 {
     }
 
     fn fit(string: &[u32]) {}
-}
-
-// The rank of the letter at a place of a string.
-pub fn rank_at<S: Letter>(string: &[S], i: usize) -> u32
-    requires { i < length string.now }
-    ensures { result ≡ get_or (map S.rank string.now) i 0 }
-{
-    string[i].rank()
-}
-
-// Whether the letters at two places compare as equal.
-pub fn same_at<S: Letter>(string: &[S], a: usize, b: usize) -> bool
-    requires { (a < length string.now) × (b < length string.now) }
-    ensures { result ≡ eqb (get_or (map S.rank string.now) a 0) (get_or (map S.rank string.now) b 0) }
-{
-    string[a].is_same(string[b])
 }
 
 // A rank in the order of the ranks, or in its reverse.
