@@ -11,7 +11,7 @@ ghost use Rattle.build.specs.States.{progress_of, report_of, pair_of, unequal_at
 
 use entries::{Tables, clear_bytes};
 use outcome::{Built, Report, answer};
-use ranks::{Letter, orient, rank_at, same_at};
+use ranks::{Letter, orient};
 use refusal::{Refusal, build_verdict, tables_verdict};
 
 // The state of a build: reach c, shift d, the rows that are recorded, and the comparisons made that found two letters equal,
@@ -81,10 +81,17 @@ fn scan<S: Letter>(
 {
     let most = string.len() - r;
     for m in from..most {
-        if !same_at(string, l + m, r + m) {
-            let left = rank_at(string, l + m);
-            let right = rank_at(string, r + m);
-            return differs(left, right, reverse, m, equal + (m - from), unequal);
+        let left = string[l + m];
+        let right = string[r + m];
+        if !left.is_same(right) {
+            return differs(
+                left.rank(),
+                right.rank(),
+                reverse,
+                m,
+                equal + (m - from),
+                unequal,
+            );
         }
     }
     // at the end, the suffix at r is the smaller

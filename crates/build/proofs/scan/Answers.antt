@@ -1,9 +1,10 @@
 -- `build::scan` meets its contract.
-use mathlib.Core.Path.{◌≡◌, sym}
+use mathlib.Core.Path.{◌≡◌, sym, ◌∙◌}
 use Prim.Native.Nat.{◌-◌}
 use native.Mathlib.Omega.{arith}
 use lib.ListN.{length}
 use borrow.Author.Tests.{eqb-true, eqb-false}
+use Rattle.ranks.proofs.Ranks.{rank_here}
 use Rattle.build.proofs.Strings.{string_length, string_entry, same_entry, other_entry}
 use Rattle.build.proofs.Settling.{scan_starts, scan_ends, scan_goes, scan_stops}
 use Rattle.build.proofs.scan.Goals as goal
@@ -13,21 +14,25 @@ loop-m-init g c = scan_starts _ _ _ _ _ _ (omega (arith, string_length g.S.Lette
 
 pub loop-m-preserved : goal.loop-m-preserved
 loop-m-preserved g c =
-    let long = string_length g.S.Letter.rank c.args.reverse c.args.string.now in
-    let same = eqb-true _ _ (sym c.if-not-same_at.ensures) in
-    scan_goes _ _ _ _ _ _ c.loop-m.invariant (omega (arith, long)) (same_entry g.S.Letter.rank c.args.reverse c.args.string.now _ _ (omega arith) (omega arith) same)
-
-pub returns-then-not-same_at : goal.returns-then-not-same_at
-returns-then-not-same_at g c =
     let rank = g.S.Letter.rank in
     let string = c.args.string.now in
     let long = string_length rank c.args.reverse string in
-    let left = string_entry rank c.args.reverse string _ (omega arith) c.rank_at-left.ensures in
-    let right = string_entry rank c.args.reverse string _ (omega arith) c.rank_at-right.ensures in
-    let other = eqb-false _ _ (sym c.if-not-same_at.ensures) in
-    rw (c.differs.ensures, left, right)
+    let left = rank_here rank string _ c.index-string-l.is (omega arith) in
+    let right = rank_here rank string _ c.index-string-r.is (omega arith) in
+    let same = sym left ∙ eqb-true _ _ (sym c.if-not-is_same.ensures) ∙ right in
+    scan_goes _ _ _ _ _ _ c.loop-m.invariant (omega (arith, long)) (same_entry rank c.args.reverse string _ _ (omega arith) (omega arith) same)
+
+pub returns-then-not-is_same : goal.returns-then-not-is_same
+returns-then-not-is_same g c =
+    let rank = g.S.Letter.rank in
+    let string = c.args.string.now in
+    let long = string_length rank c.args.reverse string in
+    let left = c.rank.ensures ∙ rank_here rank string _ c.index-string-l.is (omega arith) in
+    let right = c.rank-then-not-is_same.ensures ∙ rank_here rank string _ c.index-string-r.is (omega arith) in
+    rw (c.differs.ensures, string_entry rank c.args.reverse string _ (omega arith) left, string_entry rank c.args.reverse string _ (omega arith) right)
     (scan_stops _ _ _ _ _ _ c.loop-m.invariant (omega (arith, long))
-    (other_entry rank c.args.reverse string _ _ c.rank_at-left.ensures c.rank_at-right.ensures (omega arith) (omega arith) (omega arith) (omega arith) other))
+    (other_entry rank c.args.reverse string _ _ left right (omega arith) (omega arith) (omega arith) (omega arith)
+    (λ e. eqb-false _ _ (sym c.if-not-is_same.ensures) (sym c.rank.ensures ∙ left ∙ e ∙ sym right ∙ c.rank-then-not-is_same.ensures))))
 
 pub returns : goal.returns
 returns g c =
