@@ -7,7 +7,7 @@ use Prim.Native.Nat.{ℕ, ◌-◌, ◌≤◌, ◌<◌}
 use native.Mathlib.Omega.{arith}
 use lib.Dec.{eqb}
 use lib.ListN.{length, get_or}
-use borrow.Author.Tests.{lt-ltb, le-ltb, eq-eqb, ne_eqb, eqb-true, not-false}
+use borrow.Author.Tests.{lt-ltb, le-ltb, ltb-false, eq-eqb, ne_eqb, eqb-true, not-false}
 use Rattle.suffix.specs.Search.{tabulate, least_from}
 use Rattle.suffix.specs.Nearest.{next}
 use Rattle.suffix.specs.Rows.{Tables, tables_after}
@@ -76,6 +76,10 @@ module _ (y claimed : List ℕ) (work : Tables) where
       let a = first_none _ _ (first_none _ _ e).1 in
       not_off _ _ (neither _ _ (nothing_found _ TableLength a.0)).0
 
+  few : check_refusal y claimed work ≡ 0 → length y ≤ 1000000
+  unfolding check_refusal
+  few e = ltb-false _ _ (nothing_found _ TooLong (first_none _ _ e).0)
+
   refused_claim : {k : ℕ} → 0 < k → k ≡ check_refusal y claimed work → {after : Tables} → after ≡ work_at_exit y claimed work → CheckedExactly y claimed work after (refused k)
   unfolding finding
   refused_claim h e leaves =
@@ -111,8 +115,8 @@ module _ (y claimed : List ℕ) {before after : Tables} {verdict : Result (Unit 
     next_length_lem : length after.next ≡ length y
     next_length_lem = ap length next_is ∙ tabulate_length (next y) (length y)
 
-    pub lengths : length claimed ≡ length after.next
-    lengths = claimed_length y claimed before taken ∙ sym next_length_lem
+    pub lengths : (length after.next ≤ 1000000) × (length claimed ≡ length after.next)
+    lengths = (omega (arith, next_length_lem, few y claimed before taken), claimed_length y claimed before taken ∙ sym next_length_lem)
 
     difference_is : first_difference claimed after.next 0 (length after.next) ≡ least_wrong y claimed
     unfolding first_difference least_wrong is_wrong

@@ -20,7 +20,7 @@ returns-in_err-build_tables-clause-checked g c =
 pub first_difference-requires : goal.first_difference-requires
 first_difference-requires g c =
     let n = length-map c.args.string.now g.S.Letter.rank in
-    lengths _ _ {verdict = Ok tt} c.in_ok-build_tables.ensures.built (λ h. grind (arith, n)) refl
+    (lengths _ _ {verdict = Ok tt} c.in_ok-build_tables.ensures.built (λ h. grind (arith, n)) refl).1
 
 pub returns-clause-checked : goal.returns-clause-checked
 returns-clause-checked g c =
