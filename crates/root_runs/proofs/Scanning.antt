@@ -6,7 +6,10 @@ use mathlib.Core.List.{List}
 use Prim.Native.Nat.{ℕ, suc, ◌+◌, ◌-◌, ◌≤◌, ◌<◌, min}
 use native.Mathlib.Omega.{arith}
 use lib.Dec.{eqb}
+use lib.ListN.{length, get_or}
 use borrow.Author.Tests.{eqb-true, eqb-false}
+use Rattle.std.specs.Prelude.{map}
+use Rattle.ranks.proofs.Ranks.{rank_here}
 use Rattle.suffix.proofs.Cases.{Same, same, other, same?}
 use Rattle.repeats.specs.Roots.{left_of}
 use Rattle.repeats.proofs.Periods.{left_unique}
@@ -17,6 +20,12 @@ pub record Agreeing (y : List ℕ) (i j x : ℕ) : Type 0 where
   pub most : x ≤ suc (j - i)
   pub room : x ≤ i
   pub same : (k : ℕ) → k < x → letter y (i - suc k) ≡ letter y (j - suc k)
+
+-- two letters of a string are compared
+pub compared : {S : Type 0} (rank : S → ℕ) (string : List S) (a b : ℕ) {left right : S} {t : Bool} → t ≡ eqb (rank left) (rank right)
+    → left ≡ get_or string a left → right ≡ get_or string b right → a < length string → b < length string
+    → t ≡ eqb (letter (map rank string) a) (letter (map rank string) b)
+compared rank string a b t l r h g = rw (rank_here rank string a l h, rank_here rank string b r g) at t
 
 module _ (y : List ℕ) (i j : ℕ) where
   pub agree_none : Agreeing y i j 0

@@ -9,7 +9,7 @@ ghost use Rattle.run_list.specs.Entries.{run_of};
 ghost use Rattle.root_runs.specs.States.{Within, accepted, run_in};
 ghost use Rattle.root_runs.specs.Bounds.{is_within, report_within};
 
-use ranks::{Letter, same_at};
+use ranks::Letter;
 use run_list::Run;
 
 // An entry of a next table, with its match.
@@ -31,14 +31,16 @@ impl Next {
 }
 
 // How many places before i agree with those before j, j - i + 1 of them at the most.
-#[tactic(auto, using(crate::proofs::Scanning::agree_none, crate::proofs::Scanning::agree_more, crate::proofs::Scanning::at_most, crate::proofs::Scanning::at_difference))]
+#[tactic(auto, using(crate::proofs::Scanning::agree_none))]
 fn left_of<S: Letter>(string: &[S], i: usize, j: usize) -> usize
     requires { (i < j) × (j ≤ length string.now) × (length string.now ≤ 1000000) }
     ensures { result ≡ left_of (map S.rank string.now) i j }
 {
     let most = i.min(j - i + 1);
     for x in 0..most {
-        if !same_at(string, i - 1 - x, j - 1 - x) {
+        let left = string[i - 1 - x];
+        let right = string[j - 1 - x];
+        if !left.is_same(right) {
             return x;
         }
     }
