@@ -1,10 +1,10 @@
 -- Whether a place with its next and next-match lies in the string, test by test.
-use mathlib.Core.Path.{◌≡◌}
-use mathlib.Core.Bool.{true, false}
+use mathlib.Core.Path.{◌≡◌, refl, sym, ap, ◌∙◌}
+use mathlib.Core.Bool.{Bool, true, false}
 use mathlib.Core.List.{List}
 use Prim.Native.Nat.{ℕ, ◌+◌, ◌≤◌, ◌<◌}
 use native.Mathlib.Omega.{arith}
-use lib.Dec.{ltb, leb}
+use lib.Dec.{eqb, ltb, leb}
 use lib.ListN.{length}
 use borrow.Author.Tests.{lt-ltb, le-ltb, ltb-true, leb-true, le-leb}
 use Rattle.suffix.proofs.Cases.{both_true}
@@ -24,17 +24,30 @@ module _ (n i j m : ℕ) where
   unfolding is_within
   within_told e = let w = both_true (ltb i j) (leb (j + m) n) e in record { after = ltb-true i j w.0; fits = leb-true (j + m) n w.1 }
 
--- ---- what is reported, by its next under the order and under the reverse
+-- ---- the next under the order and the one under its reverse
+
+module _ (n i j m k l : ℕ) where
+  pub too_long_lem : 1000000 < n → false ≡ are_within n i j m k l
+  unfolding are_within
+  too_long_lem h = rw (lt-ltb 1000000 n h)
+
+  pub first_outside : n ≤ 1000000 → {a : Bool} → a ≡ is_within n i j m → a ≡ false → false ≡ are_within n i j m k l
+  unfolding are_within
+  first_outside few is e = let f : is_within n i j m ≡ false = sym is ∙ e in rw (le-ltb 1000000 n few, f)
+
+-- ---- what is reported
 
 module _ (y : List ℕ) (i j m k l : ℕ) {n : ℕ} (long : n ≡ length y) where
-  pub too_long_lem : 1000000 < n → no_run ≡ report_within y i j m k l
-  unfolding report_within are_within
-  too_long_lem h = rw (lt-ltb 1000000 (length y) (omega arith), report_within)
+  none_outside : false ≡ are_within n i j m k l → no_run ≡ report_within y i j m k l
+  unfolding report_within
+  none_outside e = let f : are_within (length y) i j m k l ≡ false = ap (λ v. are_within v i j m k l) (sym long) ∙ sym e in rw (f, report_within)
+
+  pub none_too_long : 1000000 < n → no_run ≡ report_within y i j m k l
+  none_too_long h = none_outside (too_long_lem n i j m k l h)
 
   module _ (few : n ≤ 1000000) where
-    pub first_outside : is_within n i j m ≡ false → no_run ≡ report_within y i j m k l
-    unfolding report_within are_within
-    first_outside e = rw (le-ltb 1000000 (length y) (omega arith), rw long at e, report_within)
+    pub none_first : is_within n i j m ≡ false → no_run ≡ report_within y i j m k l
+    none_first e = none_outside (first_outside n i j m k l few (sym e) refl)
 
     pub second_outside : is_within n i j m ≡ true → is_within n i k l ≡ false → no_run ≡ report_within y i j m k l
     unfolding report_within are_within
@@ -43,3 +56,6 @@ module _ (y : List ℕ) (i j m k l : ℕ) {n : ℕ} (long : n ≡ length y) wher
     pub both_within : is_within n i j m ≡ true → is_within n i k l ≡ true → {r : Run} → r ≡ report_of y i j m k l → r ≡ report_within y i j m k l
     unfolding report_within are_within
     both_within e f w = rw (le-ltb 1000000 (length y) (omega arith), rw long at e, rw long at f, report_within) w
+
+    pub none_within : is_within n i j m ≡ true → is_within n i k l ≡ true → {b : Bool} → b ≡ eqb (report_of y i j m k l).period 0 → b ≡ eqb (report_within y i j m k l).period 0
+    none_within e f w = w ∙ ap (λ r. eqb r.period 0) (both_within e f refl)

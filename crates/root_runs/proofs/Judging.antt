@@ -4,8 +4,10 @@ use mathlib.Core.Bool.{Bool, true, false, true≢false}
 use mathlib.Core.List.{List}
 use Prim.Native.Nat.{ℕ, ◌+◌, ◌-◌, ◌≤◌, ◌<◌}
 use native.Mathlib.Omega.{arith}
+use lib.Dec.{eqb}
 use lib.ListN.{length}
-use Rattle.std.specs.Prelude.{Option, Some, None, is_some, unwrap_or, MatchOption}
+use borrow.Author.Tests.{ne_eqb}
+use Rattle.std.specs.Prelude.{Option, Some, None, is_some, is_none, unwrap_or, MatchOption}
 use Rattle.std.specs.Option.{option_map}
 use Rattle.repeats.specs.Runs.{Run}
 use Rattle.repeats.specs.Roots.{left_of, accepts, reports}
@@ -48,3 +50,11 @@ module _ (y : List ℕ) (i j m k l : ℕ) where
   judged None None d e f = rw (not_accepted y false i j m d, not_accepted y true i k l (f e), report_of)
   judged None (Some r) d e f = let a = is_accepted y true i k l (f e) in rw (not_accepted y false i j m d, a.0, report_of) a.1
   judged (Some q) r d e f = let a = is_accepted y false i j m d in rw (e, a.0, report_of) a.1
+
+  -- a run that is accepted has a period
+  pub judged_none : i < j → i < k → (first r : Option declared.Run) → option_map run_of first ≡ accepted y false i j m → {P : Type 0}
+      → MatchOption first P (λ x. r ≡ Some x) → (P → option_map run_of r ≡ accepted y true i k l) → is_none r ≡ eqb (report_of y i j m k l).period 0
+  unfolding report_of reports
+  judged_none g h None None d e f = rw (not_accepted y false i j m d, not_accepted y true i k l (f e), report_of) refl
+  judged_none g h None (Some r) d e f = let a = is_accepted y true i k l (f e) in rw (not_accepted y false i j m d, a.0, report_of) (sym (ne_eqb (k - i) 0 (omega arith)))
+  judged_none g h (Some q) r d e f = let a = is_accepted y false i j m d in rw (e, a.0, report_of) (sym (ne_eqb (j - i) 0 (omega arith)))

@@ -1,7 +1,7 @@
 // The run that one place of a string reports, by its next and next-match under the two orders.
 #![tactic(auto)]
 
-ghost use Rattle.std.specs.Prelude.{◌≡◌, true, ◌≤◌, ◌<◌, length, map};
+ghost use Rattle.std.specs.Prelude.{◌≡◌, true, ◌≤◌, ◌<◌, eqb, length, map, is_none};
 ghost use Rattle.std.specs.Option.{option_map};
 ghost use Rattle.repeats.specs.Roots.{left_of};
 ghost use Rattle.repeats.specs.Gathered.{report_of};
@@ -79,7 +79,8 @@ fn judged_report<S: Letter>(string: &[S], i: usize, next: Next, reverse_next: Ne
     requires few { length string.now ≤ 1000000 }
     requires next { Within (length string.now) i next.position next.matched }
     requires reverse_next { Within (length string.now) i reverse_next.position reverse_next.matched }
-    ensures { run_in result ≡ report_of (map S.rank string.now) i next.position next.matched reverse_next.position reverse_next.matched }
+    ensures run { run_in result ≡ report_of (map S.rank string.now) i next.position next.matched reverse_next.position reverse_next.matched }
+    ensures none { is_none result ≡ eqb (report_of (map S.rank string.now) i next.position next.matched reverse_next.position reverse_next.matched).period 0 }
 {
     accepted(string, false, i, next).or_else(|| accepted(string, true, i, reverse_next))
 }
@@ -87,7 +88,8 @@ fn judged_report<S: Letter>(string: &[S], i: usize, next: Next, reverse_next: Ne
 // What place i reports, by its next under the order and under the reverse of it. No run where one of them does not lie in the string, or the
 // string is too long.
 pub fn report_of<S: Letter>(string: &[S], i: usize, next: Next, reverse_next: Next) -> Option<Run>
-    ensures { run_in result ≡ report_within (map S.rank string.now) i next.position next.matched reverse_next.position reverse_next.matched }
+    ensures run { run_in result ≡ report_within (map S.rank string.now) i next.position next.matched reverse_next.position reverse_next.matched }
+    ensures none { is_none result ≡ eqb (report_within (map S.rank string.now) i next.position next.matched reverse_next.position reverse_next.matched).period 0 }
 {
     let n = string.len();
     if n <= 1000000 && next.is_within(n, i) && reverse_next.is_within(n, i) {
