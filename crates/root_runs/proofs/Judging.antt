@@ -22,9 +22,9 @@ module _ (y : List ℕ) (reverse : Bool) (i j m : ℕ) where
   accepted_no h = rw (accepts_not y reverse i j m h)
 
   pub accepted_yes : (x : ℕ) → x ≡ left_of y i j → 0 < x → x ≤ j - i → j - i ≤ x + m → (reverse ≡ true → j + m < length y)
-      → Some (record { start = i - x; end = j + m; period = j - i }) ≡ accepted y reverse i j m
+      → {end : ℕ} → end ≡ j + m → Some (record { start = i - x; end = end; period = j - i }) ≡ accepted y reverse i j m
   unfolding reports
-  accepted_yes x e a b c d = rw (tell_accepts y reverse i j m (record { one = omega arith; uncut = omega arith; twice = omega arith; ends = d }), e)
+  accepted_yes x e a b c d q = rw (tell_accepts y reverse i j m (record { one = omega arith; uncut = omega arith; twice = omega arith; ends = d }), e, q)
 
 -- where none is accepted, and what is accepted
 module _ (y : List ℕ) (reverse : Bool) (i j m : ℕ) where

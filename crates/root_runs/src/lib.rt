@@ -31,7 +31,7 @@ impl Next {
 }
 
 // How many places before i agree with those before j, j - i + 1 of them at the most.
-#[tactic(auto, using(crate::proofs::Scanning::agree_none))]
+#[tactic(auto, using(crate::proofs::Scanning::agree_none, crate::proofs::Scanning::letters_more, crate::proofs::Scanning::at_most, crate::proofs::Scanning::letters_differ))]
 fn left_of<S: Letter>(string: &[S], i: usize, j: usize) -> usize
     requires { (i < j) × (j ≤ length string.now) × (length string.now ≤ 1000000) }
     ensures { result ≡ left_of (map S.rank string.now) i j }

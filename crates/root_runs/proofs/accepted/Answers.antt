@@ -3,6 +3,7 @@ use mathlib.Core.Path.{sym, ◌∙◌}
 use mathlib.Core.Bool.{true≢false}
 use Prim.Native.Nat.{suc, ◌-◌}
 use native.Mathlib.Omega.{arith}
+use Rattle.std.proofs.Common.{rules}
 use lib.ListN.{length-map}
 use Rattle.std.specs.Prelude.{map}
 use Rattle.repeats.proofs.Accepting.{left_most}
@@ -34,3 +35,4 @@ returns g c =
       | else-reverse-via-then-reverse+else-j-m w ↦ omega (arith, long, c.requires.0.fits)
       | else-reverse-via-else-reverse w ↦ absurd (true≢false (sym e ∙ w.if-reverse.false))
     ])
+    (search (rules, arith))

@@ -34,7 +34,7 @@ loop-i-preserved g c =
     let inside : i < length y = omega (arith, n, c.loop-i-test.true) in
     let K = c.loop-i.invariant in
     let reported : run_in c.report_of.result ≡ report_at greatest_rank y i =
-    report_read y (omega (arith, n, c.requires.room.few)) i inside c.report_of.ensures (K.gathering.next i (omega arith) inside) (match_entry c.requires.tabled i inside) (next_entry c.requires.reverse_tabled i inside) (match_entry c.requires.reverse_tabled i inside) in
+    report_read y (omega (arith, n, c.requires.room.few)) i inside c.report_of.ensures.run (K.gathering.next i (omega arith) inside) (match_entry c.requires.tabled i inside) (next_entry c.requires.reverse_tabled i inside) (match_entry c.requires.reverse_tabled i inside) in
     elim c.match-report_of.branch [
       | in-Some w ↦ rw w.list-is (collecting_more (at_most c.fit.ensures) K inside (ap run_in (sym w.in-Some.is) ∙ reported) w.insert.ensures.same w.insert.ensures.inserted)
       | in_default w ↦ rw w.list-is (collecting_none_more (at_most c.fit.ensures) K inside (sym (none_in _ w.in_default.not-Some) ∙ reported))
