@@ -62,7 +62,7 @@ module _ (y : List ℕ) (i j : ℕ) where
 
 -- the next two letters of a string of them are tested
 module _ {S : Type 0} (rank : S → ℕ) (string : List S) (i j x : ℕ) (A : Agreeing (map rank string) i j x) {left right : S}
-  (l : left ≡ get_or string (i - 1 - x) left) (r : right ≡ get_or string (j - 1 - x) right) (after : i < j) (fits : j ≤ length string) (more : x < i) where
+    (l : left ≡ get_or string (i - 1 - x) left) (r : right ≡ get_or string (j - 1 - x) right) (after : i < j) (fits : j ≤ length string) (more : x < i) where
   pub letters_more : x ≤ j - i → {b : Bool} → b ≡ eqb (rank left) (rank right) → b ≡ true → Agreeing (map rank string) i j (x + 1)
   letters_more h t q = agree_more (map rank string) i j x A more h (compared rank string (i - 1 - x) (j - 1 - x) t l r (omega arith) (omega arith)) q
 

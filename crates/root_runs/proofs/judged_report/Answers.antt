@@ -1,5 +1,4 @@
 -- `root_runs::judged_report` meets its contract.
-use native.Mathlib.Omega.{arith}
 use Rattle.std.proofs.Common.{rules}
 use Rattle.root_runs.proofs.Judging.{judged, judged_none}
 use Rattle.root_runs.proofs.judged_report.Goals as goal
