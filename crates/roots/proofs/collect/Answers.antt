@@ -2,6 +2,7 @@
 use Rattle.std.proofs.Common.{rules, List, ℕ, map, length, arith, sym, ap, ◌∙◌, refl, ◌≡◌, ◌<◌}
 use Rattle.std.proofs.lemmas.List.{length-map}
 use Rattle.ranks.specs.Ranks.{greatest_rank}
+use Rattle.entries.proofs.Clearing.{cleared_all}
 use Rattle.repeats.specs.Gathered.{report_at}
 use Rattle.run_list.specs.Entries.{tables}
 use Rattle.root_runs.specs.States.{run_in}
@@ -52,4 +53,4 @@ returns-clause-leaves g c =
     let w = c.args.work.now in
     listed (tables c.loop-i.list) _ (gathering_done (at_most c.fit.ensures) G (omega (arith, n, c.loop-i-test.false))) (G.starts ∙ n) (G.ends ∙ n) (G.periods ∙ n)
     w.next_match.now w.reverse_next.now w.reverse_match.now (matches_length c.requires.tabled ∙ n) (nexts_length c.requires.reverse_tabled ∙ n) (matches_length c.requires.reverse_tabled ∙ n)
-    (search rules) (search rules) (search rules) (search rules) (search rules) (search rules)
+    (search rules) (search rules) (search rules) (search (rules, cleared_all)) (search (rules, cleared_all)) (search (rules, cleared_all))
