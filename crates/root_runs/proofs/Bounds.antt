@@ -3,7 +3,6 @@ use mathlib.Core.Path.{◌≡◌, refl, sym, ap, ◌∙◌}
 use mathlib.Core.Bool.{Bool, true, false}
 use mathlib.Core.List.{List}
 use Prim.Native.Nat.{ℕ, ◌+◌, ◌≤◌, ◌<◌}
-use native.Mathlib.Omega.{arith}
 use lib.Dec.{eqb, ltb, leb}
 use lib.ListN.{length}
 use borrow.Author.Tests.{lt-ltb, le-ltb, ltb-true, leb-true, le-leb}
@@ -31,31 +30,43 @@ module _ (n i j m k l : ℕ) where
   unfolding are_within
   too_long_lem h = rw (lt-ltb 1000000 n h)
 
-  pub first_outside : n ≤ 1000000 → {a : Bool} → a ≡ is_within n i j m → a ≡ false → false ≡ are_within n i j m k l
-  unfolding are_within
-  first_outside few is e = let f : is_within n i j m ≡ false = sym is ∙ e in rw (le-ltb 1000000 n few, f)
+  module _ (few : n ≤ 1000000) {a : Bool} (is : a ≡ is_within n i j m) where
+    pub first_outside : a ≡ false → false ≡ are_within n i j m k l
+    unfolding are_within
+    first_outside e = let f : is_within n i j m ≡ false = sym is ∙ e in rw (le-ltb 1000000 n few, f)
+
+    pub by_second : a ≡ true → {b : Bool} → b ≡ is_within n i k l → b ≡ are_within n i j m k l
+    unfolding are_within
+    by_second e w = let f : is_within n i j m ≡ true = sym is ∙ e in rw (le-ltb 1000000 n few, f) w
 
 -- ---- what is reported
 
 module _ (y : List ℕ) (i j m k l : ℕ) {n : ℕ} (long : n ≡ length y) where
-  none_outside : false ≡ are_within n i j m k l → no_run ≡ report_within y i j m k l
-  unfolding report_within
-  none_outside e = let f : are_within (length y) i j m k l ≡ false = ap (λ v. are_within v i j m k l) (sym long) ∙ sym e in rw (f, report_within)
+  module _ {b : Bool} (is : b ≡ are_within n i j m k l) where
+    found : {a : Bool} → b ≡ a → are_within (length y) i j m k l ≡ a
+    found e = ap (λ v. are_within v i j m k l) (sym long) ∙ sym is ∙ e
+
+    pub reported_within : b ≡ true → {r : Run} → r ≡ report_of y i j m k l → r ≡ report_within y i j m k l
+    unfolding report_within
+    reported_within e w = rw (found e, report_within) w
+
+    pub none_outside : b ≡ false → {r : Run} → r ≡ no_run → r ≡ report_within y i j m k l
+    unfolding report_within
+    none_outside e w = rw (found e, report_within) w
 
   pub none_too_long : 1000000 < n → no_run ≡ report_within y i j m k l
-  none_too_long h = none_outside (too_long_lem n i j m k l h)
+  none_too_long h = none_outside (too_long_lem n i j m k l h) refl refl
 
   module _ (few : n ≤ 1000000) where
     pub none_first : is_within n i j m ≡ false → no_run ≡ report_within y i j m k l
-    none_first e = none_outside (first_outside n i j m k l few (sym e) refl)
+    none_first e = none_outside (first_outside n i j m k l few (sym e) refl) refl refl
 
     pub second_outside : is_within n i j m ≡ true → is_within n i k l ≡ false → no_run ≡ report_within y i j m k l
-    unfolding report_within are_within
-    second_outside e f = rw (le-ltb 1000000 (length y) (omega arith), rw long at e, rw long at f, report_within)
+    second_outside e f = none_outside (by_second n i j m k l few (sym e) refl (sym f)) refl refl
 
     pub both_within : is_within n i j m ≡ true → is_within n i k l ≡ true → {r : Run} → r ≡ report_of y i j m k l → r ≡ report_within y i j m k l
-    unfolding report_within are_within
-    both_within e f w = rw (le-ltb 1000000 (length y) (omega arith), rw long at e, rw long at f, report_within) w
+    both_within e f w = reported_within (by_second n i j m k l few (sym e) refl (sym f)) refl w
 
+    -- and whether it is none
     pub none_within : is_within n i j m ≡ true → is_within n i k l ≡ true → {b : Bool} → b ≡ eqb (report_of y i j m k l).period 0 → b ≡ eqb (report_within y i j m k l).period 0
     none_within e f w = w ∙ ap (λ r. eqb r.period 0) (both_within e f refl)
