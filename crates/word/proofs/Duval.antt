@@ -14,6 +14,7 @@ use Rattle.suffix.proofs.Sequence.{Less, less_trans}
 use Rattle.suffix.proofs.Edges.{NextAt}
 use Rattle.suffix.proofs.Order.{extended, extended_in, extended_out}
 use Rattle.suffix.proofs.Nearest.{next_is}
+use Rattle.ranks.proofs.Ranks.{rank_here}
 use Rattle.suffix.proofs.Lyndon.{longest_next}
 
 module _ (f : ℕ → ℕ) where
@@ -84,25 +85,25 @@ module _ {S : Type 0} (rank : S → ℕ) (string : List S) {k j : ℕ} (r : Repe
   abbrev y : List ℕ
   y = map rank string
 
-  at_k : j ≤ length string → extended y k ≡ suc (get_or y k 0)
-  at_k h = extended_in y k (omega (arith, length-map string rank))
+  at : (i : ℕ) {a : S} → a ≡ get_or string i a → i < length string → extended y i ≡ suc (rank a)
+  at i e h = extended_in y i (omega (arith, length-map string rank)) ∙ ap suc (sym (rank_here rank string i e h))
 
-  at_j : j < length string → extended y j ≡ suc (get_or y j 0)
-  at_j h = extended_in y j (omega (arith, length-map string rank))
+  module _ {a b : S} (is_k : a ≡ get_or string k a) (is_j : b ≡ get_or string j b) (h : j < length string) where
+    pub letter_equal : eqb (rank a) (rank b) ≡ true → Repeats (extended y) (k + 1) (j + 1)
+    letter_equal e = repeats_on (extended y) r (omega (tests, at k is_k (omega arith), at j is_j h, e))
 
-  pub letter_equal : j < length string → eqb (get_or y k 0) (get_or y j 0) ≡ true → Repeats (extended y) (k + 1) (j + 1)
-  letter_equal h e = repeats_on (extended y) r (omega (tests, at_k (omega arith), at_j h, e))
-
-  pub letter_greater : j < length string → eqb (get_or y k 0) (get_or y j 0) ≡ false → get_or y k 0 ≤ get_or y j 0 → Repeats (extended y) 0 (j + 1)
-  letter_greater h d e = repeats_whole (extended y) r (omega (tests, at_k (omega arith), at_j h, d))
+    pub letter_greater : eqb (rank a) (rank b) ≡ false → rank a ≤ rank b → Repeats (extended y) 0 (j + 1)
+    letter_greater d e = repeats_whole (extended y) r (omega (tests, at k is_k (omega arith), at j is_j h, d, e))
 
   ends : j ≤ length string → extended y j < extended y k → j - k ≡ longest_lyndon y 0
   ends h e =
       let n = length-map string rank in
       omega (arith, next_is y 0 (omega (arith, n)) r.period (repeats_end (extended y) r e), longest_next y 0 (omega (arith, n)))
 
-  pub letter_smaller : j < length string → get_or y j 0 < get_or y k 0 → j - k ≡ longest_lyndon y 0
-  letter_smaller h e = ends (omega arith) (omega (arith, at_k (omega arith), at_j h))
+  pub letter_smaller : {a b : S} → a ≡ get_or string k a → b ≡ get_or string j b → j < length string → rank b < rank a → j - k ≡ longest_lyndon y 0
+  letter_smaller is_k is_j h e = ends (omega arith) (omega (arith, at k is_k (omega arith), at j is_j h))
 
   pub string_ends : j ≡ length string → length string - k ≡ longest_lyndon y 0
-  string_ends h = ap (λ n. n - k) (sym h) ∙ ends (omega arith) (omega (arith, at_k (omega arith), extended_out y j (omega (arith, length-map string rank))))
+  string_ends h =
+      let n = length-map string rank in
+      ap (λ n. n - k) (sym h) ∙ ends (omega arith) (omega (arith, extended_in y k (omega (arith, n)), extended_out y j (omega (arith, n))))

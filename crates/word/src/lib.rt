@@ -6,7 +6,7 @@ ghost use Rattle.std.specs.Mem.{type_size};
 ghost use Rattle.suffix.specs.Lyndon.{longest_lyndon};
 ghost use Rattle.word.specs.Word.{WordAnswered, number_in, part_in};
 
-use ranks::{Letter, rank_at, same_at};
+use ranks::Letter;
 use refusal::Refusal;
 
 // The length of the longest Lyndon word at the front of a string, by Duval's plain search. The first j ranks repeat a Lyndon word of j - k of them:
@@ -19,11 +19,11 @@ fn longest_lyndon_prefix<S: Letter>(string: &[S]) -> usize
     let n = string.len();
     let mut k = 0;
     for j in 1..n {
-        if same_at(string, k, j) {
+        if string[k].is_same(string[j]) {
             k += 1;
             continue;
         }
-        if rank_at(string, j) < rank_at(string, k) {
+        if string[j].rank() < string[k].rank() {
             return j - k;
         }
         k = 0;
