@@ -1,5 +1,5 @@
 -- The longest-word question, refused and not; and the laws that prove specs/Claims.antt.
-use mathlib.Core.Path.{◌≡◌, refl, sym, ap, ◌∙◌}
+use mathlib.Core.Path.{◌≡◌, refl, sym, ap, ap₂, ◌∙◌}
 use mathlib.Core.Logic.{◌≢◌}
 use mathlib.Core.Bool.{Bool, true, false}
 use mathlib.Core.List.{List, [], ◌∷◌}
@@ -10,13 +10,13 @@ use lib.ListN.{length, take, drop, length-drop, length-map}
 use lib.Seq.{length-take-le}
 use Rattle.std.proofs.Common.{map}
 use Rattle.std.specs.List.{between}
-use Rattle.std.proofs.lemmas.List.{drop-map, get_or-take, get_or-drop}
+use Rattle.std.proofs.lemmas.List.{nil_from_length, drop-map, get_or-take, get_or-drop}
 use Rattle.std.proofs.lemmas.Slice.{between_to_end}
 use borrow.Author.Tests.{lt-ltb, le-ltb, le-leb, lt-leb, leb-false, eq-eqb, ne_eqb}
 use denote.Ref.{Bor}
 use Rattle.suffix.specs.Lyndon.{part, longest_lyndon}
 use Rattle.suffix.proofs.Nearest.{next_le}
-use Rattle.suffix.proofs.Lyndon.{part_length, longest_next}
+use Rattle.suffix.proofs.Lyndon.{longest_next}
 use Rattle.refusal.specs.Numbers.{lowest, lowest_from}
 use Rattle.refusal.specs.Conditions.{too_long, position_outside, word_refusal}
 use Rattle.word.specs.Word.{word_part, word_start, WordAnswered}
@@ -100,20 +100,17 @@ one_byte_or_four = (refl, refl)
 
 -- where it is refused
 module _ {S : Type 0} {bytes : ℕ} (string : Bor (List S)) (y : List ℕ) (i : ℕ) where
-  refused : {number : ℕ} → number ≡ word_refusal (length string.now) i → number ≢ 0 → WordAnswered bytes string y i number (record { ref_ptr = string.ref_ptr; now = [] })
-  refused e d =
-      let g : word_refusal (length string.now) i ≢ 0 = λ q. d (e ∙ q) in
-      record {
-        refusal = e;
-        part = sym (part_refused string.now y i g);
-        own = rw (start_refused string.now i g, zero-mul, zero-add) refl;
-      }
+  module _ {word : Bor (List S)} (empty : length word.now ≡ 0) (block : word.ref_ptr.0 ≡ string.ref_ptr.0) (place : word.ref_ptr.1 ≡ string.ref_ptr.1) where
+    refused : {number : ℕ} → number ≡ word_refusal (length string.now) i → number ≢ 0 → WordAnswered bytes string y i number word
+    refused e d =
+        let g : word_refusal (length string.now) i ≢ 0 = λ q. d (e ∙ q) in
+        record { refusal = e; part = nil_from_length word.now empty ∙ sym (part_refused string.now y i g); own = ap₂ (λ b p. (b, p)) block place ∙ rw (start_refused string.now i g, zero-mul, zero-add) refl }
 
-  pub refused_long : 1000000 < length string.now → WordAnswered bytes string y i 1 (record { ref_ptr = string.ref_ptr; now = [] })
-  refused_long h = refused (sym (too_long_lem (length string.now) i h)) (omega arith)
+    pub refused_long : 1000000 < length string.now → WordAnswered bytes string y i 1 word
+    refused_long h = refused (sym (too_long_lem (length string.now) i h)) (omega arith)
 
-  pub refused_outside : length string.now ≤ 1000000 → length string.now ≤ i → WordAnswered bytes string y i 5 (record { ref_ptr = string.ref_ptr; now = [] })
-  refused_outside h g = refused (sym (outside (length string.now) i h g)) (omega arith)
+    pub refused_outside : length string.now ≤ 1000000 → length string.now ≤ i → WordAnswered bytes string y i 5 word
+    refused_outside h g = refused (sym (outside (length string.now) i h g)) (omega arith)
 
 -- at a position of the string, where the search finds k in the suffix
 module _ {S : Type 0} (rank : S → ℕ) (string : Bor (List S)) (i : ℕ) (few : length string.now ≤ 1000000) (h : i < length string.now) where

@@ -3,9 +3,9 @@
 use Rattle.std.specs.Prelude.{◌≡◌, true, false, List, [], ℕ, ◌+◌, ◌*◌, eqb, length, take, drop, Result, Ok, Err}
 use Rattle.std.specs.Borrow.{Bor}
 use Rattle.suffix.specs.Lyndon.{longest_lyndon}
-use Rattle.refusal.specs.declared.Refusal.{Refusal}
 use Rattle.refusal.specs.Numbers.{number_of}
 use Rattle.refusal.specs.Conditions.{word_refusal}
+use Rattle.word.specs.declared.Refused.{Refused}
 
 -- "The longest-word question takes a string and a position and returns that part of the caller's string itself": its letters or symbols as they
 -- stand, of which their ranks y tell the number alone; refused, it "returns the empty part"
@@ -23,11 +23,11 @@ pub record WordAnswered {S : Type 0} (bytes : ℕ) (letters : Bor (List S)) (y :
   pub part : word.now ≡ word_part letters.now y i
   pub own : word.ref_ptr ≡ (letters.ref_ptr.0, word_start letters.now i * bytes + letters.ref_ptr.1)
 
--- what an answer holds: the number, and the part, which is empty and "at the string's start" where it is refused
-abbrev pub number_in : {A : Type 0} → Result A Refusal → ℕ
+-- what an answer holds: the number, and the part, which it hands out refused too
+abbrev pub number_in : {S : Type 0} → Result (Bor (List S)) (Refused S) → ℕ
 number_in (Ok part) = 0
-number_in (Err refusal) = number_of refusal
+number_in (Err refused) = number_of refused.refusal
 
-abbrev pub part_in : {S : Type 0} → Bor (List S) → Result (Bor (List S)) Refusal → Bor (List S)
-part_in letters (Ok part) = part
-part_in letters (Err refusal) = record { ref_ptr = letters.ref_ptr; now = [] }
+abbrev pub part_in : {S : Type 0} → Result (Bor (List S)) (Refused S) → Bor (List S)
+part_in (Ok part) = part
+part_in (Err refused) = refused.part

@@ -31,16 +31,30 @@ fn longest_lyndon_prefix<S: Letter>(string: &[S]) -> usize
     n - k
 }
 
+// Why no word is returned, and the empty part at the string's start.
+#[derive(Clone, Copy)]
+pub struct Refused<'a, S> {
+    pub refusal: Refusal,
+    pub part: &'a [S],
+}
+
 // The longest Lyndon word at the position, as a part of the string.
-pub fn word<S: Letter>(string: &[S], position: usize) -> Result<&[S], Refusal>
-    ensures { WordAnswered (type_size S.row) string.entry (map S.rank string.now) position (number_in result) (part_in string.entry result) }
+pub fn word<S: Letter>(string: &[S], position: usize) -> Result<&[S], Refused<'_, S>>
+    ensures { WordAnswered (type_size S.row) string.entry (map S.rank string.now) position (number_in result) (part_in result) }
 {
     let n = string.len();
+    let part = &string[..0];
     if n > 1000000 {
-        return Err(Refusal::TooLong);
+        return Err(Refused {
+            refusal: Refusal::TooLong,
+            part,
+        });
     }
     if n <= position {
-        return Err(Refusal::PositionOutside);
+        return Err(Refused {
+            refusal: Refusal::PositionOutside,
+            part,
+        });
     }
     let suffix = &string[position..];
     let length = longest_lyndon_prefix(suffix);
