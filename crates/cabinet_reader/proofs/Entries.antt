@@ -1,18 +1,15 @@
 -- What is told of an entry.
 use mathlib.Core.Path.{◌≡◌, sym, ap, ap₂, ◌∙◌}
 use mathlib.Core.Logic.{◌≢◌}
-use mathlib.Core.List.{List, []}
+use mathlib.Core.List.{List}
 use Prim.Native.Nat.{ℕ, ◌+◌, ◌*◌, ◌≤◌, ◌<◌}
 use native.Mathlib.Nat.{zero-add}
 use native.Mathlib.Omega.{arith}
 use lib.ListN.{length, take, drop}
 use Rattle.std.specs.Borrow.{Bor}
 use borrow.Author.Tests.{eq-eqb}
-use Rattle.std.specs.Prelude.{Option, None, Result, Ok, Err}
-use Rattle.std.specs.Option.{ok_or}
+use Rattle.std.proofs.lemmas.List.{nil_from_length}
 use Rattle.refusal.specs.declared.Refusal.TheVariants.{NotMarked}
-use Rattle.cabinet.specs.declared.Mark.{Mark}
-use Rattle.cabinet_reader.specs.Figures.{number_met}
 use Rattle.suffix.specs.Lyndon.{part}
 use Rattle.suffix.specs.Tree.{tree_length}
 use Rattle.refusal.specs.declared.Refusal.{Refusal}
@@ -53,23 +50,20 @@ module _ (file : Bor (List ℕ)) (entry : ℕ) where
         own = o ∙ ap (λ a. (file.ref_ptr.0, a + file.ref_ptr.1)) (p ∙ sym (unless_taken _ _ _ zero));
       }
 
-  -- a refused one with nothing but the refusal
-  pub refused : (k : Refusal) → number_of k ≡ read_refusal file.now entry → EntryRead file entry (number_of k) 0 0 0 (record { ref_ptr = file.ref_ptr; now = [] })
-  refused k e =
+  -- a refused one with nothing but the refusal and the empty part at the file's start
+  pub refused : (k : Refusal) → number_of k ≡ read_refusal file.now entry → {part : Bor (List ℕ)} → length part.now ≡ 0 → part.ref_ptr.0 ≡ file.ref_ptr.0 → part.ref_ptr.1 ≡ file.ref_ptr.1
+      → EntryRead file entry (number_of k) 0 0 0 part
+  refused k e {part = part} empty block place =
       let h : read_refusal file.now entry ≢ 0 = λ z. omega (arith, positive k, e, z) in
       record {
         refusal = e;
         met = sym (unless_refused_lem _ _ _ h);
         letters = sym (unless_refused_lem _ _ _ h);
         place = sym (unless_refused_lem _ _ _ h);
-        body = sym (unless_refused_lem _ _ _ h);
-        own = rw (unless_refused_lem (read_refusal file.now entry) (place_of file.now entry) 0 h, zero-add);
+        body = nil_from_length part.now empty ∙ sym (unless_refused_lem _ _ _ h);
+        own = ap₂ (λ b p. (b, p)) block place ∙ rw (unless_refused_lem (read_refusal file.now entry) (place_of file.now entry) 0 h, zero-add);
       }
 
   -- one of a file without a mark is refused
-  pub unmarked : {mark : Option Mark} {k : Refusal} → number_met mark ≡ mark_of file.now → mark ≡ None → Err k ≡ ok_or mark NotMarked → number_of k ≡ read_refusal file.now entry
-  unmarked m e k = ap number (k ∙ ap (λ o. ok_or o NotMarked) e) ∙ sym (read_9 file.now entry (eq-eqb (mark_of file.now) 0 (sym m ∙ ap number_met e)))
-    where
-      number : Result Mark Refusal → ℕ
-      number (Ok mark) = 0
-      number (Err k) = number_of k
+  pub unmarked : 0 ≡ mark_of file.now → number_of NotMarked ≡ read_refusal file.now entry
+  unmarked m = sym (read_9 file.now entry (eq-eqb (mark_of file.now) 0 (sym m)))

@@ -103,13 +103,28 @@ pub struct Entry<'a> {
     pub body: &'a [u8],
 }
 
+// Why no entry is read, and the empty part at the file's start.
+#[derive(Clone, Copy)]
+pub struct Refused<'a> {
+    pub refusal: Refusal,
+    pub part: &'a [u8],
+}
+
 // Reads an entry of the file.
 #[tactic(auto, using(crate::proofs::Entries::within))]
-pub fn read<'a>(file: &'a [u8], entry: usize) -> Result<Entry<'a>, Refusal>
-    ensures { EntryRead file.entry entry (refusal_told result) (mark_told result) (letters_told result) (place_told result) (body_told file.entry result) }
+pub fn read<'a>(file: &'a [u8], entry: usize) -> Result<Entry<'a>, Refused<'a>>
+    ensures { EntryRead file.entry entry (refusal_told result) (mark_told result) (letters_told result) (place_told result) (body_told result) }
 {
-    let mark = mark_of(file).ok_or(Refusal::NotMarked)?;
-    verdict_on(file, entry)?;
+    let part = &file[..0];
+    let Some(mark) = mark_of(file) else {
+        return Err(Refused {
+            refusal: Refusal::NotMarked,
+            part,
+        });
+    };
+    if let Err(refusal) = verdict_on(file, entry) {
+        return Err(Refused { refusal, part });
+    }
     let place = number_at(file, 8 + 8 * entry) as usize;
     let letters = number_at(file, 12 + 8 * entry);
     let body = &file[place..place + tree_length(letters as usize)];
