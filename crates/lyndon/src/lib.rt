@@ -111,7 +111,8 @@ pub extern "C" fn lyndon_next_tree(size: usize, tree: &mut [u8]) -> NextReply
 pub extern "C" fn lyndon_word(letters: &[u8], position: usize) -> PartReply
     ensures { result ≡ word_reply (ranks letters.now) position }
 {
-    PartReply::of(position, word::word(letters, position))
+    let word = word::word(letters, position).map_err(|refused| refused.refusal);
+    PartReply::of(position, word)
 }
 
 #[unsafe(no_mangle)]
@@ -186,5 +187,7 @@ pub extern "C" fn lyndon_cabinet_write(counts: &[u32], trees: &[u8], file: &mut 
 pub extern "C" fn lyndon_cabinet_read(file: &[u8], entry: usize) -> CabinetReply
     ensures { result ≡ cabinet_reply file.now entry }
 {
-    cabinet_reader::read(file, entry).into()
+    cabinet_reader::read(file, entry)
+        .map_err(|refused| refused.refusal)
+        .into()
 }

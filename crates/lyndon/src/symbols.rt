@@ -40,7 +40,8 @@ pub extern "C" fn lyndon_build32(
 pub extern "C" fn lyndon_word32(symbols: &[u32], position: usize) -> PartReply
     ensures { result ≡ word_reply symbols.now position }
 {
-    PartReply::of(position, word::word(symbols, position))
+    let word = word::word(symbols, position).map_err(|refused| refused.refusal);
+    PartReply::of(position, word)
 }
 
 #[unsafe(no_mangle)]
