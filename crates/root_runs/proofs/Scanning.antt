@@ -60,7 +60,7 @@ module _ (y : List ℕ) (i j : ℕ) where
     pub at_difference : i ≤ j → {b : Bool} → b ≡ eqb (letter y (i - 1 - x)) (letter y (j - 1 - x)) → b ≡ false → x ≡ left_of y i j
     at_difference h t q = stops h (λ a b e. unlike t q (at (i - 1 - x) (i - suc x) (omega arith) ∙ e ∙ at (j - suc x) (j - 1 - x) (omega arith)))
 
--- the next two letters of a string of them are tested
+-- the next two letters of a string are tested
 module _ {S : Type 0} (rank : S → ℕ) (string : List S) (i j x : ℕ) (A : Agreeing (map rank string) i j x) {left right : S}
     (l : left ≡ get_or string (i - 1 - x) left) (r : right ≡ get_or string (j - 1 - x) right) (after : i < j) (fits : j ≤ length string) (more : x < i) where
   pub letters_more : x ≤ j - i → {b : Bool} → b ≡ eqb (rank left) (rank right) → b ≡ true → Agreeing (map rank string) i j (x + 1)
