@@ -4,7 +4,7 @@ use mathlib.Core.Bool.{false}
 use mathlib.Core.List.{List}
 use Prim.Native.Nat.{ℕ, ◌≤◌, ◌<◌}
 use native.Mathlib.Omega.{arith}
-use lib.ListN.{length, get_or, length-append}
+use lib.ListN.{length, get_or, length-append, length-take}
 use borrow.Author.Tests.{lt-ltb, le-ltb, eq-eqb}
 use Rattle.suffix.specs.Search.{tabulate}
 use Rattle.suffix.specs.Nearest.{previous, next}
@@ -139,3 +139,7 @@ rendered_long y h room p = rendered (text_long y h) (omega arith) p
 pub rendered_tables :
     (letters : List ℕ) → length letters ≤ 2048 → {a b : List ℕ} {r : ℕ} → 180000 ≤ length a → Put a b (tables_text (ranks letters)) 0 r → Rendered letters a b r
 rendered_tables letters h room p = rendered (text_tables letters h) (omega (arith, tables_most letters h)) p
+
+-- what render says fits the buffer
+pub rendered_fits : {y before out : List ℕ} {r : ℕ} → Rendered y before out r → r ≤ length out
+rendered_fits {out = out} {r = r} w = omega (arith, ap length w.text, w.size, length-take r out)
