@@ -9,10 +9,10 @@ use native.Mathlib.Omega.{arith}
 use lib.ListN.{length, get_or}
 use Rattle.suffix.proofs.Cases.{Tri, lt, eq, gt, tri, Same, same, other, same?}
 use Rattle.suffix.specs.Rows.{Tables}
-use Rattle.reuse.specs.Steps.{Progress, scan, scan_from, reuse, settle}
+use Rattle.reuse.specs.Steps.{Progress, ScanReport, scan, scan_from, reuse, settle}
 use Rattle.reuse.proofs.Scan.{scan_equal, scan_unequal}
 use Rattle.reuse.proofs.Settle.{settle_scan, settle_by_next, settle_by_previous}
-use Rattle.build.specs.States.{unequal_at, Scanned, settled_from}
+use Rattle.build.specs.States.{unequal_at, at_end, Scanned, settled_from}
 use Rattle.entries.specs.Lent.{cleared_tables}
 use Rattle.entries.proofs.Clearing.{cleared_get}
 
@@ -55,6 +55,24 @@ module _ (y : List ℕ) (l r from equal unequal : ℕ) where
             reports = sym (S.is ∙ rw left (scan_unequal y l r m (length y - (r + (m + 1))) (equal + (m - from)) unequal e ∙ rw (add-one unequal)));
             fits = S.inside;
           }
+
+  -- at the first place: the end, unequal letters, and what goes on from equal ones
+  none : equal + (from - from) ≡ equal
+  none = omega arith
+
+  pub first_end : r + from ≡ length y → Scanned y l r from equal unequal (at_end from equal unequal)
+  first_end h = rw none at (scan_ends {m = from} (scan_starts (omega arith)) (omega arith))
+
+  module _ (h : r + from < length y) where
+    pub first_unequal : get_or y (l + from) 0 ≢ get_or y (r + from) 0
+        → Scanned y l r from equal unequal (unequal_at (get_or y (l + from) 0) (get_or y (r + from) 0) from equal unequal)
+    first_unequal e = rw none at (scan_stops {m = from} (scan_starts (omega arith)) h e)
+
+    pub first_equal : get_or y (l + from) 0 ≡ get_or y (r + from) 0 → {u : ScanReport} → Scanned y l r (from + 1) (equal + 1) unequal u → Scanned y l r from equal unequal u
+    first_equal e U =
+        let S = scan_goes (scan_starts (omega arith)) h e in
+        let one : equal + (from + 1 - from) ≡ equal + 1 = omega arith in
+        record { reports = U.reports ∙ sym (rw one at S.is); fits = U.fits }
 
 -- ---- a pair of which nothing is known: x is next[l - d], and v the match that is recorded
 

@@ -24,6 +24,10 @@ pair_of u = record { progress = progress_of u.state; match = u.matched; left_sma
 abbrev pub unequal_at : (a b m equal unequal : ℕ) → ScanReport
 unequal_at a b m equal unequal = record { match = m; left_smaller = ltb a b; equal = equal; unequal = unequal + 1 }
 
+-- what a scan reports that comes to the end with match m
+abbrev pub at_end : (m equal unequal : ℕ) → ScanReport
+at_end m equal unequal = record { match = m; left_smaller = false; equal = equal; unequal = unequal }
+
 -- what a scan of (l, r) from m reports
 pub record Scanned (y : List ℕ) (l r m equal unequal : ℕ) (u : ScanReport) : Type 0 where
   pub reports : u ≡ scan y l r m (length y - (r + m)) equal unequal

@@ -7,7 +7,7 @@ ghost use Rattle.ranks.specs.Ranks.{oriented, oriented_rank};
 ghost use Rattle.entries.specs.Lent.{tables_in, cleared_tables, AreOf, SameLent};
 ghost use Rattle.reuse.specs.Steps.{scanned, after_rows};
 ghost use Rattle.outcome.specs.Built.{figures_of, BuiltExactly, TablesBuilt};
-ghost use Rattle.build.specs.States.{progress_of, report_of, pair_of, unequal_at, figures_in, Scanned, build_state, Safe, settled_from};
+ghost use Rattle.build.specs.States.{progress_of, report_of, pair_of, unequal_at, at_end, figures_in, Scanned, build_state, Safe, settled_from};
 
 use entries::{Tables, clear_bytes};
 use outcome::{Built, Report, answer};
@@ -66,8 +66,22 @@ fn differs(a: u32, b: u32, reverse: bool, m: usize, equal: usize, unequal: usize
     }
 }
 
-// Step 1: compares the letters at l + m and r + m, raising m while they are equal. `equal` and `unequal` count the comparisons made so far.
-fn scan<S: Letter>(
+// What a scan reports that comes to the end.
+fn ends(m: usize, equal: usize, unequal: usize) -> ScanReport
+    ensures { report_of result ≡ at_end m equal unequal }
+{
+    // at the end, the suffix at r is the smaller
+    let left_smaller = false;
+    ScanReport {
+        matched: m,
+        left_smaller,
+        equal,
+        unequal,
+    }
+}
+
+// Goes on with step 1, raising m while the letters at l + m and r + m are equal.
+fn scan_on<S: Letter>(
     string: &[S],
     reverse: bool,
     l: usize,
@@ -76,7 +90,7 @@ fn scan<S: Letter>(
     equal: usize,
     unequal: usize,
 ) -> ScanReport
-    requires { (length string.now ≤ 1000000) × (l < r) × (r + from ≤ length string.now) × (equal ≤ 1000000) × (unequal ≤ 2000000) }
+    requires { (length string.now ≤ 1000000) × (l < r) × (r + from ≤ length string.now) × (equal ≤ 1000001) × (unequal ≤ 2000000) }
     ensures { Scanned (oriented reverse (map S.rank string.now)) l r from equal unequal (report_of result) }
 {
     let most = string.len() - r;
@@ -94,14 +108,32 @@ fn scan<S: Letter>(
             );
         }
     }
-    // at the end, the suffix at r is the smaller
-    let left_smaller = false;
-    ScanReport {
-        matched: most,
-        left_smaller,
-        equal: equal + (most - from),
-        unequal,
+    ends(most, equal + (most - from), unequal)
+}
+
+// Step 1: compares the letters at l + m and r + m, raising m while they are equal. `equal` and `unequal` count the comparisons made so far. The
+// first comparison, at which most scans of varied letters stop, stands before the loop.
+fn scan<S: Letter>(
+    string: &[S],
+    reverse: bool,
+    l: usize,
+    r: usize,
+    from: usize,
+    equal: usize,
+    unequal: usize,
+) -> ScanReport
+    requires { (length string.now ≤ 1000000) × (l < r) × (r + from ≤ length string.now) × (equal ≤ 1000000) × (unequal ≤ 2000000) }
+    ensures { Scanned (oriented reverse (map S.rank string.now)) l r from equal unequal (report_of result) }
+{
+    if r + from == string.len() {
+        return ends(from, equal, unequal);
     }
+    let first = string[l + from];
+    let other = string[r + from];
+    if first.is_same(other) {
+        return scan_on(string, reverse, l, r, from + 1, equal + 1, unequal);
+    }
+    differs(first.rank(), other.rank(), reverse, from, equal, unequal)
 }
 
 impl State {
