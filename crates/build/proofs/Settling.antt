@@ -2,7 +2,7 @@
 use mathlib.Core.Path.{◌≡◌, refl, sym, ap, ◌∙◌}
 use mathlib.Core.Logic.{◌≢◌}
 use mathlib.Core.Bool.{Bool, true, false}
-use mathlib.Core.List.{List}
+use mathlib.Core.List.{List, map}
 use Prim.Native.Nat.{ℕ, suc, ◌+◌, ◌-◌, ◌≤◌, ◌<◌}
 use native.Mathlib.Numerals.{add-one}
 use native.Mathlib.Omega.{arith}
@@ -12,6 +12,8 @@ use Rattle.suffix.specs.Rows.{Tables}
 use Rattle.reuse.specs.Steps.{Progress, ScanReport, scan, scan_from, reuse, settle}
 use Rattle.reuse.proofs.Scan.{scan_equal, scan_unequal}
 use Rattle.reuse.proofs.Settle.{settle_scan, settle_by_next, settle_by_previous}
+use Rattle.ranks.specs.Ranks.{greatest_rank, oriented, oriented_rank}
+use Rattle.build.proofs.Strings.{string_length, string_entry, other_entry}
 use Rattle.build.specs.States.{unequal_at, at_end, Scanned, settled_from}
 use Rattle.entries.specs.Lent.{cleared_tables}
 use Rattle.entries.proofs.Clearing.{cleared_get}
@@ -73,6 +75,20 @@ module _ (y : List ℕ) (l r from equal unequal : ℕ) where
         let S = scan_goes (scan_starts (omega arith)) h e in
         let one : equal + (from + 1 - from) ≡ equal + 1 = omega arith in
         record { reports = U.reports ∙ sym (rw one at S.is); fits = U.fits }
+
+-- ---- two letters of a string that differ
+
+module _ {S : Type 0} (rank : S → ℕ) (reverse : Bool) (string : List S) where
+  abbrev turned : List ℕ
+  turned = oriented reverse (map rank string)
+
+  pub stopped : {l r from equal unequal a b m e : ℕ} {u : ScanReport} → u ≡ unequal_at (oriented_rank reverse a) (oriented_rank reverse b) m e unequal
+      → a ≡ get_or (map rank string) (l + m) 0 → b ≡ get_or (map rank string) (r + m) 0 → l < r → r + m < length string → a ≤ greatest_rank → b ≤ greatest_rank → a ≢ b
+      → Scanning turned l r from equal unequal m → e ≡ equal + (m - from) → Scanned turned l r from equal unequal u
+  stopped {l} {r} {from} {equal} {unequal} {a} {b} {m} told left right h inside few few' d S q =
+      let apart : get_or turned (l + m) 0 ≢ get_or turned (r + m) 0 = other_entry rank reverse string (l + m) (r + m) left right few few' (omega arith) inside (λ e. d (left ∙ e ∙ sym right)) in
+      rw (told, q, string_entry rank reverse string (l + m) (omega arith) left, string_entry rank reverse string (r + m) inside right)
+      (scan_stops turned l r from equal unequal S (omega (arith, string_length rank reverse string)) apart)
 
 -- ---- a pair of which nothing is known: x is next[l - d], and v the match that is recorded
 

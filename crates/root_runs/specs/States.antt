@@ -1,4 +1,4 @@
--- What the contracts of the private functions are written with.
+-- What the contracts of `report_of` and of the private functions are written with.
 use Rattle.std.specs.Prelude.{Bool, if◌then◌else◌, Option, Some, None, List, ℕ, ◌+◌, ◌≤◌, ◌<◌}
 use Rattle.repeats.specs.Runs.{Run, no_run}
 use Rattle.repeats.specs.Roots.{accepts, reports}

@@ -5,8 +5,8 @@ use native.Mathlib.Omega.{arith}
 use lib.ListN.{length}
 use borrow.Author.Tests.{eqb-true, eqb-false}
 use Rattle.ranks.proofs.Ranks.{rank_here}
-use Rattle.build.proofs.Strings.{string_length, string_entry, same_entry, other_entry}
-use Rattle.build.proofs.Settling.{scan_starts, scan_ends, scan_goes, scan_stops}
+use Rattle.build.proofs.Strings.{string_length, same_entry}
+use Rattle.build.proofs.Settling.{scan_starts, scan_ends, scan_goes, stopped}
 use Rattle.build.proofs.scan_on.Goals as goal
 
 pub loop-m-init : goal.loop-m-init
@@ -26,13 +26,11 @@ pub returns-then-not-is_same : goal.returns-then-not-is_same
 returns-then-not-is_same g c =
     let rank = g.S.Letter.rank in
     let string = c.args.string.now in
-    let long = string_length rank c.args.reverse string in
-    let left = c.rank.ensures ∙ rank_here rank string _ c.index-string-l.is (omega arith) in
-    let right = c.rank-then-not-is_same.ensures ∙ rank_here rank string _ c.index-string-r.is (omega arith) in
-    rw (c.differs.ensures, string_entry rank c.args.reverse string _ (omega arith) left, string_entry rank c.args.reverse string _ (omega arith) right)
-    (scan_stops _ _ _ _ _ _ c.loop-m.invariant (omega (arith, long))
-    (other_entry rank c.args.reverse string _ _ left right (omega arith) (omega arith) (omega arith) (omega arith)
-    (λ e. eqb-false _ _ (sym c.if-not-is_same.ensures) (sym c.rank.ensures ∙ left ∙ e ∙ sym right ∙ c.rank-then-not-is_same.ensures))))
+    let left = rank_here rank string _ c.index-string-l.is (omega arith) in
+    let right = rank_here rank string _ c.index-string-r.is (omega arith) in
+    let other = eqb-false _ _ (sym c.if-not-is_same.ensures) in
+    stopped rank c.args.reverse string c.differs.ensures (omega (arith, c.rank.ensures, left)) (omega (arith, c.rank-then-not-is_same.ensures, right)) (omega arith) (omega arith)
+    (omega arith) (omega arith) (λ e. other (omega (arith, e, c.rank.ensures, c.rank-then-not-is_same.ensures))) c.loop-m.invariant (omega arith)
 
 pub returns : goal.returns
 returns g c =
